@@ -1,0 +1,267 @@
+-- Soundness and sizes are decided: each type below says what is decided, so there is nothing more to believe here. Assumes nothing.
+use Prim.Native.Nat.{ℕ, zero, suc, _+_, _*_, _<_, _≤_}
+use mathlib.Core.Path.{_≡_, refl, sym, ap, _∙_, subst}
+use mathlib.Core.Bool.{Bool, true, false, cond}
+use mathlib.Core.List.{List, [], _∷_}
+use native.Mathlib.Omega.{arith}
+use lib.Dec.{eqb, leb, ltb}
+use lib.ListN.{length, getD}
+use lib.IntN.{ℤ, pos, negsuc}
+use borrow.Author.Tests.{eqb-true, eqb-false, eq-eqb, ne-eqb, leb-true, leb-false, ltb-true, ltb-false}
+use lib.Signed.{mag}
+use Rattle.rules.specs.declared.Head.{Head}
+use Rattle.rules.specs.Head.{Limits}
+use Rattle.rules.specs.Field.{Signed32, addressOf}
+use Rattle.rules.specs.Rows.{Lent}
+use Rattle.rules.specs.Sound.{kind, word, mark, Live, Mark, Word, Words, Variable, Variables, TableRow, ZeroFrom, At, NotIn, Ranged, pointers, pointersTo, heldAmong, next, Path, times, FreeList, Sound, Lengths, Sized}
+
+-- ---- ways to decide
+
+abbrev map-dec : {A B : Type 0} → (A → B) → (B → A) → Dec A → Dec B
+map-dec f g (yes a) = yes (f a)
+map-dec f g (no d) = no (λ b. d (g b))
+
+abbrev Dec·and : {P Q : Type 0} → Dec P → Dec Q → Dec (P × Q)
+Dec·and (yes p) (yes q) = yes (p, q)
+Dec·and (yes p) (no d) = no (λ x. d (x .1))
+Dec·and (no d) q = no (λ x. d (x .0))
+
+-- by a test
+abbrev by : {P : Type 0} (t : Bool) → (t ≡ true → P) → (t ≡ false → P → ⊥) → Dec P
+by true f g = yes (f refl)
+by false f g = no (g refl)
+
+abbrev ℕ-discrete : (m n : ℕ) → Dec (m ≡ n)
+ℕ-discrete m n = by (eqb m n) (eqb-true m n) (eqb-false m n)
+
+pub not-le : (m n : ℕ) → leb m n ≡ false → m ≤ n → ⊥
+not-le m n e h = let w = leb-false m n e in omega arith
+
+abbrev decLe : (m n : ℕ) → Dec (m ≤ n)
+decLe m n = by (leb m n) (leb-true m n) (not-le m n)
+
+pub not-lt : (m n : ℕ) → ltb m n ≡ false → m < n → ⊥
+not-lt m n e h = let w = ltb-false m n e in omega arith
+
+abbrev decLt : (m n : ℕ) → Dec (m < n)
+decLt m n = by (ltb m n) (ltb-true m n) (not-lt m n)
+
+abbrev Bool-discrete : (b : Bool) → Dec (b ≡ true)
+Bool-discrete true = yes refl
+Bool-discrete false = no (λ e. let z : _≡_ {A = ℕ} 0 1 = cc in omega arith)
+
+pub nought-in : (a : ℕ) → pos a ≡ pos 0 → a ≡ 0
+nought-in a e = cc
+
+pub minus-in : (a : ℕ) → negsuc a ≡ negsuc 0 → a ≡ 0
+minus-in a e = cc
+
+abbrev nought? : (x : ℤ) → Dec (x ≡ pos 0)
+nought? (pos a) = map-dec (ap pos) (nought-in a) (ℕ-discrete a 0)
+nought? (negsuc a) = no (λ e. let z : _≡_ {A = ℕ} 0 1 = cc in omega arith)
+
+abbrev nothing? : (x : ℤ) → Dec (x ≡ negsuc 0)
+nothing? (pos a) = no (λ e. let z : _≡_ {A = ℕ} 0 1 = cc in omega arith)
+nothing? (negsuc a) = map-dec (ap negsuc) (minus-in a) (ℕ-discrete a 0)
+
+abbrev dec-imp : {P Q : Type 0} → Dec P → Dec Q → Dec (P → Q)
+dec-imp p (yes q) = yes (λ h. q)
+dec-imp (yes p) (no d) = no (λ f. d (f p))
+dec-imp (no d) (no e) = yes (λ p. absurd (d p))
+
+abbrev dec-no : Dec ⊥
+dec-no = no (λ x. x)
+
+abbrev dec-not : {P : Type 0} → Dec P → Dec (P → ⊥)
+dec-not d = dec-imp d dec-no
+
+-- every number below n
+pub all-at : (n : ℕ) (P : ℕ → Type 0) → P n → ((i : ℕ) → i < n → P i) → (i : ℕ) → i < suc n → P i
+all-at n P p a i h = go (ℕ-discrete i n)
+  where
+    go : Dec (i ≡ n) → P i
+    go (yes e) = subst P (sym e) p
+    go (no x) = a i (omega arith)
+
+abbrev all-go : (n : ℕ) (P : ℕ → Type 0) → Dec (P n) → Dec ((i : ℕ) → i < n → P i) → Dec ((i : ℕ) → i < suc n → P i)
+all-go n P (yes p) (yes a) = yes (all-at n P p a)
+all-go n P (no x) a = no (λ f. x (f n (omega arith)))
+all-go n P (yes p) (no x) = no (λ f. x (λ i h. f i (omega arith)))
+
+abbrev dec-all : (n : ℕ) (P : ℕ → Type 0) → ((i : ℕ) → Dec (P i)) → Dec ((i : ℕ) → i < n → P i)
+dec-all zero P d = yes (λ i h. absurd (omega arith))
+dec-all (suc n) P d = all-go n P (d n) (dec-all n P d)
+
+-- ---- words and variables
+
+abbrev dec-live : (n : ℕ) (ks : List ℕ) (b : ℕ) → Dec (Live n ks b)
+dec-live n ks b =
+    map-dec (λ p. record { cell = p .0; used = p .1 }) (λ l. (l .cell, l .used))
+    (Dec·and (decLt b n) (dec-not (ℕ-discrete (mark ks b) 3)))
+
+abbrev dec-mark : (n : ℕ) (ks : List ℕ) (a f : ℕ) (v : ℤ) → Dec (Mark n ks a f v)
+dec-mark n ks a f v =
+    map-dec (λ p. record { first = p .0; next = p .1 .0; alone = p .1 .1 }) (λ m. (m .first, (m .next, m .alone)))
+    (Dec·and (ℕ-discrete f 0) (Dec·and (decLe (addressOf (n + 1) v) n) (ℕ-discrete (kind ks a 1) 0)))
+
+unfoldable pub dec-word : (n : ℕ) (ks : List ℕ) (a f k : ℕ) (v : ℤ) → Dec (Word n ks a f k v)
+unfolding Word
+dec-word n ks a f zero v = nought? v
+dec-word n ks a f (suc zero) v = decLt (mag v) 2147483648
+dec-word n ks a f (suc (suc zero)) v = dec-live n ks (addressOf n v)
+dec-word n ks a f (suc (suc (suc zero))) v = dec-mark n ks a f v
+dec-word n ks a f (suc (suc (suc (suc k)))) v = dec-no
+
+abbrev dec-words : (n : ℕ) (ks : List ℕ) (vs : List ℤ) → Dec (Words n ks vs)
+dec-words n ks vs = dec-all n _ (λ a. dec-all 2 _ (λ f. dec-word n ks a f (kind ks a f) (word vs a f)))
+
+abbrev dec-variables : (n : ℕ) (ks : List ℕ) (xs : List ℤ) → Dec (Variables n ks xs)
+dec-variables n ks xs = dec-all (length xs) _ (λ v. dec-imp (dec-not (nothing? (getD xs v (pos 0)))) (dec-live n ks (addressOf n (getD xs v (pos 0)))))
+
+-- ---- tables
+
+abbrev dec-table : (n : ℕ) (ks row : List ℕ) (used : ℕ) → Dec (TableRow n ks row used)
+dec-table n ks row used =
+    map-dec (λ p. record { ascending = λ j h. p .0 j (omega arith) h; live = p .1 }) (λ t. (λ j h k. t .ascending j k, t .live))
+    (Dec·and (dec-all used (λ j. j + 1 < used → getD row j 0 < getD row (j + 1) 0) (λ j. dec-imp (decLt (j + 1) used) (decLt (getD row j 0) (getD row (j + 1) 0)))) (dec-all used _ (λ j. dec-live n ks (getD row j 0))))
+
+abbrev dec-zeros : (row : List ℕ) (from : ℕ) → Dec (ZeroFrom row from)
+dec-zeros row from =
+    map-dec (λ p j h k. p j k h) (λ z j k h. z j h k)
+    (dec-all (length row) (λ j. from ≤ j → getD row j 0 ≡ 0) (λ j. dec-imp (decLe from j) (ℕ-discrete (getD row j 0) 0)))
+
+abbrev dec-out : (row : List ℕ) (used a : ℕ) → Dec (NotIn row used a)
+dec-out row used a =
+    map-dec (λ p j h. p j (h .0) (h .1)) (λ o j h k. o j (h, k))
+    (dec-all used (λ j. getD row j 0 ≡ a → ⊥) (λ j. dec-not (ℕ-discrete (getD row j 0) a)))
+
+abbrev dec-ranged : (cs : List ℕ) (used cap : ℕ) → Dec (Ranged cs used cap)
+dec-ranged cs used cap = dec-all used _ (λ j. Dec·and (decLe 2 (getD cs j 0)) (decLe (getD cs j 0) cap))
+
+-- ---- the free list
+
+-- the addresses from one on, at most k
+abbrev follow : ℕ → List ℤ → ℕ → ℕ → List ℕ
+follow n vs zero from = []
+follow n vs (suc k) from = cond (eqb from n) [] (from ∷ follow n vs k (next n vs from))
+
+-- all that stands in a list, by the numbers below b
+total : List ℕ → ℕ → ℕ
+total l zero = 0
+total l (suc b) = times b l + total l b
+
+total-none : (b : ℕ) → total [] b ≡ 0
+unfolding total
+total-none zero = refl
+total-none (suc b) = let e = total-none b in omega arith
+
+total-skip : (x : ℕ) (l : List ℕ) (b : ℕ) → b ≤ x → total (x ∷ l) b ≡ total l b
+unfolding total
+total-skip x l zero h = refl
+total-skip x l (suc b) h = let e = total-skip x l b (omega arith) in rw (ne-eqb b x (omega arith)) (omega arith)
+
+total-more : (x : ℕ) (l : List ℕ) (b : ℕ) → x < b → total (x ∷ l) b ≡ suc (total l b)
+unfolding total
+total-more x l zero h = absurd (omega arith)
+total-more x l (suc b) h = go (eqb b x) refl (λ k. total-more x l b k)
+  where
+    go : (q : Bool) → eqb b x ≡ q → (x < b → total (x ∷ l) b ≡ suc (total l b)) → cond q 1 0 + times b l + total (x ∷ l) b ≡ suc (times b l + total l b)
+    go true e f = let o = eqb-true b x e in let s = total-skip x l b (omega arith) in omega arith
+    go false e f = let s = f (other (eqb-false b x e)) in omega arith
+      where
+        other : (b ≡ x → ⊥) → x < b
+        other d = omega arith
+
+total-most : (l : List ℕ) (b : ℕ) → ((i : ℕ) → i < b → times i l ≤ 1) → total l b ≤ b
+unfolding total
+total-most l zero f = omega arith
+total-most l (suc b) f = let e = total-most l b (λ i h. f i (omega arith)) in let w = f b (omega arith) in omega arith
+
+module _ (n : ℕ) (ks : List ℕ) (vs : List ℤ) where
+  abbrev dec-path : (from : ℕ) (l : List ℕ) (to : ℕ) → Dec (Path n ks vs from l to)
+  dec-path from [] to = ℕ-discrete from to
+  dec-path from (x ∷ l) to = Dec·and (ℕ-discrete x from) (Dec·and (decLt from n) (Dec·and (ℕ-discrete (mark ks from) 3) (dec-path (next n vs from) l to)))
+
+  -- a list to n is the one that is followed
+  pub followed : (from : ℕ) (l : List ℕ) (k : ℕ) → Path n ks vs from l n → length l ≤ k → follow n vs k from ≡ l
+  followed from [] zero c h = refl
+  followed from [] (suc k) c h = rw (eq-eqb from n c)
+  followed from (x ∷ l) zero c h = absurd (omega arith)
+  followed from (x ∷ l) (suc k) c h =
+      let b = c .1 .0 in
+      rw (ne-eqb from n (omega arith), c .0, followed (next n vs from) l k (c .1 .1 .1) (omega arith))
+
+  counted : (from : ℕ) (l : List ℕ) → Path n ks vs from l n → total l n ≡ length l
+  counted from [] c = total-none n
+  counted from (x ∷ l) c = let e = counted (next n vs from) l (c .1 .1 .1) in let h = c .1 .0 in let o = c .0 in total-more x l n (omega arith) ∙ ap suc e
+
+  only-free : (from : ℕ) (l : List ℕ) (b : ℕ) → Path n ks vs from l n → (mark ks b ≡ 3 → ⊥) → times b l ≡ 0
+  only-free from [] b c d = refl
+  only-free from (x ∷ l) b c d =
+      let e = only-free (next n vs from) l b (c .1 .1 .1) d in
+      rw (ne-eqb b x (λ o. d (rw (o ∙ c .0) (c .1 .1 .0)))) (omega arith)
+
+  module _ (first : ℕ) where
+    pub short : (F : FreeList n ks vs first) → length (F .list) ≤ n
+    short F = let e = counted first (F .list) (F .path) in let t = total-most (F .list) n (λ i h. once i h (ℕ-discrete (mark ks i) 3)) in omega arith
+      where
+        once : (i : ℕ) → i < n → Dec (mark ks i ≡ 3) → times i (F .list) ≤ 1
+        once i h (yes m) = omega (arith, F .once i h m)
+        once i h (no d) = omega (arith, only-free first (F .list) i (F .path) d)
+
+    abbrev dec-frees : Dec (FreeList n ks vs first)
+    dec-frees =
+        map-dec (λ p. record { list = follow n vs n first; path = p .0; once = p .1 })
+        (λ F. let e = followed first (F .list) n (F .path) (short F) in (rw e (F .path), rw e (F .once)))
+        (Dec·and (dec-path first (follow n vs n first) n)
+        (dec-all n (λ b. mark ks b ≡ 3 → times b (follow n vs n first) ≡ 1) (λ b. dec-imp (ℕ-discrete (mark ks b) 3) (ℕ-discrete (times b (follow n vs n first)) 1))))
+
+-- ---- the whole
+
+-- is the heap sound?
+unfoldable pub sound? : (h : Head) (r : Lent) → Dec (Sound h r)
+sound? h r =
+    map-dec
+    (λ p.
+    record {
+      words = p .0;
+      variables = p .1 .0;
+      zct-row = p .1 .1 .0;
+      mrt-row = p .1 .1 .1 .0;
+      zct-zeros = p .1 .1 .1 .1 .0;
+      mrt-zeros = p .1 .1 .1 .1 .1 .0;
+      counts-zeros = p .1 .1 .1 .1 .1 .1 .0;
+      free-list = p .1 .1 .1 .1 .1 .1 .1 .0;
+      apart = λ i j k l. p .1 .1 .1 .1 .1 .1 .1 .1 .0 i k j l;
+      one = λ a l. p .1 .1 .1 .1 .1 .1 .1 .1 .1 .0 a (l .cell) l;
+      none = p .1 .1 .1 .1 .1 .1 .1 .1 .1 .1 .0;
+      held = p .1 .1 .1 .1 .1 .1 .1 .1 .1 .1 .1 .0;
+      exact = p .1 .1 .1 .1 .1 .1 .1 .1 .1 .1 .1 .1 .0;
+      ranged = p .1 .1 .1 .1 .1 .1 .1 .1 .1 .1 .1 .1 .1 .0;
+      log-zero = p .1 .1 .1 .1 .1 .1 .1 .1 .1 .1 .1 .1 .1 .1;
+    })
+    (λ s. (s .words, (s .variables, (s .zct-row, (s .mrt-row, (s .zct-zeros, (s .mrt-zeros, (s .counts-zeros, (s .free-list, (λ i k j l. s .apart i j k l, (λ a k l. s .one a l, (s .none, (s .held, (s .exact, (s .ranged, s .log-zero)))))))))))))))
+    (Dec·and (dec-words (h .n) (r .kinds) (r .values))
+    (Dec·and (dec-variables (h .n) (r .kinds) (r .variables))
+    (Dec·and (dec-table (h .n) (r .kinds) (r .zct) (h .zct))
+    (Dec·and (dec-table (h .n) (r .kinds) (r .mrt) (h .mrt))
+    (Dec·and (dec-zeros (r .zct) (h .zct))
+    (Dec·and (dec-zeros (r .mrt) (h .mrt))
+    (Dec·and (dec-zeros (r .counts) (h .mrt))
+    (Dec·and (dec-frees (h .n) (r .kinds) (r .values) (h .free))
+    (Dec·and (dec-all (h .zct) (λ i. (j : ℕ) → j < h .mrt → getD (r .zct) i 0 ≡ getD (r .mrt) j 0 → ⊥) (λ i. dec-all (h .mrt) _ (λ j. dec-not (ℕ-discrete (getD (r .zct) i 0) (getD (r .mrt) j 0)))))
+    (Dec·and (dec-all (h .n) (λ a. Live (h .n) (r .kinds) a → NotIn (r .zct) (h .zct) a → NotIn (r .mrt) (h .mrt) a → pointersTo h r a ≡ 1) (λ a. dec-imp (dec-live (h .n) (r .kinds) a) (dec-imp (dec-out (r .zct) (h .zct) a) (dec-imp (dec-out (r .mrt) (h .mrt) a) (ℕ-discrete (pointersTo h r a) 1)))))
+    (Dec·and (dec-all (h .zct) _ (λ j. ℕ-discrete (pointersTo h r (getD (r .zct) j 0)) 0))
+    (Dec·and (dec-all (h .zct) _ (λ j. Bool-discrete (heldAmong (h .n) (r .variables) (getD (r .zct) j 0) (length (r .variables)))))
+    (Dec·and (dec-all (h .mrt) (λ j. getD (r .counts) j 0 < h .cap → pointersTo h r (getD (r .mrt) j 0) ≡ getD (r .counts) j 0) (λ j. dec-imp (decLt (getD (r .counts) j 0) (h .cap)) (ℕ-discrete (pointersTo h r (getD (r .mrt) j 0)) (getD (r .counts) j 0))))
+    (Dec·and (dec-ranged (r .counts) (h .mrt) (h .cap)) (dec-zeros (r .log) 0)))))))))))))))
+
+abbrev dec-limits : (h : Head) → Dec (Limits h)
+dec-limits h = map-dec (λ p. record { n-least = p .0; n-most = p .1 .0; m-least = p .1 .1 .0; m-most = p .1 .1 .1 .0; l-least = p .1 .1 .1 .1 .0; l-most = p .1 .1 .1 .1 .1 .0; cap-least = p .1 .1 .1 .1 .1 .1 .0; cap-most = p .1 .1 .1 .1 .1 .1 .1 .0; free-most = p .1 .1 .1 .1 .1 .1 .1 .1 .0; zct-most = p .1 .1 .1 .1 .1 .1 .1 .1 .1 .0; mrt-most = p .1 .1 .1 .1 .1 .1 .1 .1 .1 .1 }) (λ l. (l .n-least, (l .n-most, (l .m-least, (l .m-most, (l .l-least, (l .l-most, (l .cap-least, (l .cap-most, (l .free-most, (l .zct-most, l .mrt-most))))))))))) (Dec·and (decLe 1 (h .n)) (Dec·and (decLe (h .n) 1024) (Dec·and (decLe 1 (h .m)) (Dec·and (decLe (h .m) 64) (Dec·and (decLe 2 (h .l)) (Dec·and (decLe (h .l) 1024) (Dec·and (decLe 3 (h .cap)) (Dec·and (decLe (h .cap) 255) (Dec·and (decLe (h .free) (h .n)) (Dec·and (decLe (h .zct) (h .n)) (decLe (h .mrt) (h .n))))))))))))
+
+abbrev dec-lengths : (h : Head) (kinds values vars zct mrt counts log work : ℕ) → Dec (Lengths h kinds values vars zct mrt counts log work)
+dec-lengths h kinds values vars zct mrt counts log work = map-dec (λ p. record { for-kinds = p .0; for-values = p .1 .0; for-variables = p .1 .1 .0; for-zct = p .1 .1 .1 .0; for-mrt = p .1 .1 .1 .1 .0; for-counts = p .1 .1 .1 .1 .1 .0; for-log = p .1 .1 .1 .1 .1 .1 .0; for-work = p .1 .1 .1 .1 .1 .1 .1 }) (λ l. (l .for-kinds, (l .for-values, (l .for-variables, (l .for-zct, (l .for-mrt, (l .for-counts, (l .for-log, l .for-work)))))))) (Dec·and (ℕ-discrete kinds (2 * h .n)) (Dec·and (ℕ-discrete values (2 * h .n)) (Dec·and (ℕ-discrete vars (h .m)) (Dec·and (ℕ-discrete zct (h .n)) (Dec·and (ℕ-discrete mrt (h .n)) (Dec·and (ℕ-discrete counts (h .n)) (Dec·and (ℕ-discrete log (2 * h .l)) (ℕ-discrete work (h .n)))))))))
+
+-- are the head's numbers within the limits, and the rows' lengths those that it says?
+unfoldable pub sized? : (h : Head) (r : Lent) → Dec (Sized h r)
+sized? h r = map-dec (λ p. record { limits = p .0; lengths = p .1 }) (λ z. (z .limits, z .lengths)) (Dec·and (dec-limits h) (dec-lengths h (length (r .kinds)) (length (r .values)) (length (r .variables)) (length (r .zct)) (length (r .mrt)) (length (r .counts)) (length (r .log)) (length (r .work))))

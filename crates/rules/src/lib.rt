@@ -1,0 +1,114 @@
+// The types of the heap: its head, a field, a call, an outcome. What they mean stands in specs/.
+ghost use mathlib.Core.Path.{_≡_};
+ghost use Rattle.rules.specs.Head.{freshHead, Limits, Says};
+
+// Beside the rows goes a head by value: the sizes, the first free address, the used lengths of ZCT and MRT.
+#[repr(C)]
+pub struct Head {
+    pub n: usize,
+    pub m: usize,
+    pub l: usize,
+    pub cap: usize,
+    pub free: usize,
+    pub zct: usize,
+    pub mrt: usize,
+}
+
+// The limits belong to the head.
+impl Head {
+    pub const CELLS_LEAST: usize = 1;
+
+    pub const CELLS_MOST: usize = 1024;
+
+    pub const VARIABLES_LEAST: usize = 1;
+
+    pub const VARIABLES_MOST: usize = 64;
+
+    pub const ENTRIES_LEAST: usize = 2;
+
+    pub const ENTRIES_MOST: usize = 1024;
+
+    pub const CAP_LEAST: usize = 3;
+
+    pub const CAP_MOST: usize = 255;
+
+    // The head of a fresh heap, from four numbers: all cells free, both tables empty.
+    pub fn fresh(n: usize, m: usize, l: usize, cap: usize) -> Head
+        ensures { λ r. ⌜ r ≡ freshHead n m l cap ⌝ }
+    {
+        Head {
+            n: n,
+            m: m,
+            l: l,
+            cap: cap,
+            free: 0,
+            zct: 0,
+            mrt: 0,
+        }
+    }
+
+    // Are the head's numbers within the limits?
+    pub fn within(self) -> bool
+        ensures { λ r. ⌜ Says r (Limits self) ⌝ }
+    {
+        let n = self.n;
+        let m = self.m;
+        let l = self.l;
+        let cap = self.cap;
+        let free = self.free;
+        let zct = self.zct;
+        let mrt = self.mrt;
+        if n < Head::CELLS_LEAST || Head::CELLS_MOST < n {
+            return false;
+        }
+        if m < Head::VARIABLES_LEAST || Head::VARIABLES_MOST < m {
+            return false;
+        }
+        if l < Head::ENTRIES_LEAST || Head::ENTRIES_MOST < l {
+            return false;
+        }
+        if cap < Head::CAP_LEAST || Head::CAP_MOST < cap {
+            return false;
+        }
+        if n < free || n < zct || n < mrt {
+            return false;
+        }
+        true
+    }
+}
+
+// A field holds nothing, a figure, a cell by its address, or a free cell's mark with the next free address.
+pub enum Field {
+    Nothing,
+    Figure(i32),
+    Cell(usize),
+    Free(usize),
+}
+
+// A call names variables, fields (0 or 1) and figures.
+pub enum Call {
+    New(usize),
+    Copy(usize, usize),
+    Clear(usize),
+    Link(usize, usize, usize),
+    Put(usize, usize, i32),
+    Blank(usize, usize),
+    Follow(usize, usize, usize),
+    Read(usize, usize),
+    Same(usize, usize),
+    Settle,
+}
+
+// The used lengths of the two tables.
+pub struct Used {
+    pub zct: usize,
+    pub mrt: usize,
+}
+
+// What an entry point returns: 0 or the number that says no, the head, the cells freed.
+#[repr(C)]
+pub struct Outcome {
+    pub status: usize,
+    pub head: Head,
+    pub count: usize,
+}
