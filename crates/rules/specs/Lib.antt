@@ -10,3 +10,5 @@ pub mod Rows
 pub mod Endless
 pub mod Sound
 pub mod Decide
+pub mod Refusals
+pub mod Run
