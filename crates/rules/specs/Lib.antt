@@ -12,3 +12,6 @@ pub mod Sound
 pub mod Decide
 pub mod Refusals
 pub mod Run
+pub mod Demands
+pub mod Worthless
+pub mod Cases

@@ -1,0 +1,141 @@
+-- Each worthless heap breaks a named fact of a demand. Assumes nothing.
+use Prim.Native.Nat.{ℕ, zero, suc, _+_, _*_, _-_, _<_, _≤_}
+use mathlib.Core.Path.{_≡_, refl, sym, _∙_}
+use mathlib.Core.Bool.{Bool, true, false, cond, false≢true}
+use mathlib.Core.Option.{Option, none, some}
+use mathlib.Core.List.{List, [], _∷_}
+use native.Mathlib.Omega.{arith}
+use lib.IntN.{ℤ, pos, negsuc}
+use lib.ListN.{getD, replicate}
+use Rattle.rules.specs.declared.Head.{Head}
+use Rattle.rules.specs.declared.Call.{Call}
+use Rattle.rules.specs.declared.Call.the-variants.{New, Clear, Put, Read}
+use Rattle.rules.specs.Head.{freshHead}
+use Rattle.rules.specs.Sound.{Sound, Sized, Word, heldAmong}
+use Rattle.rules.specs.Decide.{sound?, sized?, dec-word}
+use Rattle.rules.specs.Rows as R
+use Rattle.rules.specs.Rules as U
+use Rattle.rules.specs.Settle as S
+use Rattle.rules.specs.Call as C
+use Rattle.rules.specs.Step as T
+use Rattle.rules.specs.Refusals as F
+use Rattle.rules.specs.Run as N
+use Rattle.rules.specs.Endless as E
+use Rattle.rules.specs.Demands.{Demand1, Demand2, Demand3, newWords, freeCells}
+use Rattle.rules.specs.Worthless.{saysFour, saysFourteen, answersNought, freesNothing, freesOnce, madeUpCount}
+use Rattle.rules.proofs.Tests.{sized-true, sound-true}
+
+-- a heap of one cell and one variable: fresh, and with its cell held
+abbrev h₀ : Head
+h₀ = freshHead 1 1 2 3
+
+abbrev r₀ : R.Lent
+r₀ = R.lent (3 ∷ 0 ∷ []) (pos 1 ∷ pos 0 ∷ []) (negsuc 0 ∷ []) (0 ∷ []) (0 ∷ []) (0 ∷ []) (0 ∷ 0 ∷ 0 ∷ 0 ∷ []) (0 ∷ [])
+
+abbrev h₁ : Head
+h₁ = record { n = 1; m = 1; l = 2; cap = 3; free = 1; zct = 1; mrt = 0 }
+
+abbrev r₁ : R.Lent
+r₁ = R.lent (0 ∷ 0 ∷ []) (pos 0 ∷ pos 0 ∷ []) (pos 0 ∷ []) (0 ∷ []) (0 ∷ []) (0 ∷ []) (0 ∷ 0 ∷ 0 ∷ 0 ∷ []) (0 ∷ [])
+
+sized₀ : Sized h₀ r₀
+unfolding F.isSized sized?
+sized₀ = sized-true h₀ r₀ refl
+
+sound₀ : Sound h₀ r₀
+unfolding F.isSound sound? dec-word Word
+sound₀ = sound-true h₀ r₀ refl
+
+abbrev two : List ℤ
+two = pos 0 ∷ pos 0 ∷ []
+
+abbrev six : List ℤ
+six = pos 0 ∷ pos 0 ∷ pos 0 ∷ pos 0 ∷ pos 0 ∷ pos 0 ∷ []
+
+-- clear 0
+abbrev clear₀ : List ℤ
+clear₀ = pos 3 ∷ pos 0 ∷ pos 0 ∷ pos 0 ∷ []
+
+-- new 0, put 0 0 7, read 0 0
+abbrev seven : N.Batch
+seven =
+    record {
+      calls =
+          pos 1 ∷ pos 0 ∷ pos 0 ∷ pos 0
+          ∷ pos 5 ∷ pos 0 ∷ pos 0 ∷ pos 7
+          ∷ pos 8 ∷ pos 0 ∷ pos 0 ∷ pos 0
+          ∷ [];
+      answers = six;
+    }
+
+-- what they give, by computation
+record Computed : Type 0 where
+  says-14 : getD (saysFourteen .batch h₀ r₀ (newWords 0) two .answers) 0 (negsuc 0) ≡ pos 14
+  fresh-accepted : answersNought .fresh 1 1 2 3 r₀ .outcome .status ≡ 0
+  reads-0 : N.AsEndless (N.but14 (N.saidIn 1 (seven ∷ []) (N.runOf answersNought 1 1 2 3 r₀ (seven ∷ [])))) (E.endless 1) → pos 0 ≡ pos 7
+  nothing-accepted : freesNothing .batch h₁ r₁ clear₀ two .outcome .status ≡ 0
+  nothing-zct : freesNothing .batch h₁ r₁ clear₀ two .outcome .head .zct ≡ 1
+  nothing-unheld : heldAmong 1 (freesNothing .batch h₁ r₁ clear₀ two .rows .variables) (getD (freesNothing .batch h₁ r₁ clear₀ two .rows .zct) 0 0) 1 ≡ false
+  once-honest : freesOnce .batch h₀ r₀ clear₀ two ≡ N.ours .batch h₀ r₀ clear₀ two
+  once-accepted : freesOnce .batch h₁ r₁ clear₀ two .outcome .status ≡ 0
+  once-zct : freesOnce .batch h₁ r₁ clear₀ two .outcome .head .zct ≡ 1
+  once-unheld : heldAmong 1 (freesOnce .batch h₁ r₁ clear₀ two .rows .variables) (getD (freesOnce .batch h₁ r₁ clear₀ two .rows .zct) 0 0) 1 ≡ false
+  count-accepted : madeUpCount .batch h₀ r₀ [] [] .outcome .status ≡ 0
+  count-1 : madeUpCount .batch h₀ r₀ [] [] .outcome .count ≡ 1
+  count-free : freeCells (madeUpCount .batch h₀ r₀ [] [] .rows) ≡ 1
+  count-calls : C.callsIn 1 [] ≡ some []
+
+computed : Computed
+unfolding F.isSized F.isSound sound? sized? dec-word Word F.batchOf F.checkCalls F.checkAnswers F.checkSound F.accepted F.answered R.rowsOf R.headOf R.heapOf C.callOf C.callsOf C.callsIn U.enterZct U.leaveZct U.enterMrt U.leaveMrt U.onCreate U.onDestroy U.apply U.replay S.place S.field S.store S.drops S.freeCell S.reclaim S.replayed S.settledBy S.settled C.var C.at C.isHeld C.isCell C.isFigure C.want C.orElse C.check C.makes C.logs C.write C.hold C.toCell C.target C.act C.figureOf C.sameCell C.value T.settledIf T.full T.noneFree T.after T.takeCell T.doNew T.doSettle T.doCall T.room T.run T.step T.calls T.batch T.freeFrom T.fresh N.runFrom N.runOf N.saidIn E.endless E.endlessRun E.endlessStep F.freshOf
+computed =
+    record {
+      says-14 = refl;
+      fresh-accepted = refl;
+      reads-0 = λ a. a .2 .2 .1 tt;
+      nothing-accepted = refl;
+      nothing-zct = refl;
+      nothing-unheld = refl;
+      once-honest = refl;
+      once-accepted = refl;
+      once-zct = refl;
+      once-unheld = refl;
+      count-accepted = refl;
+      count-1 = refl;
+      count-free = refl;
+      count-calls = refl;
+    }
+
+-- 4 to all: an empty batch on a fresh heap, which is sound
+pub worthless-says-4 : Demand1 saysFour → ⊥
+worthless-says-4 d = d .refused-4 h₀ r₀ [] [] .only refl .2 sound₀
+
+-- 14 to all: a new in a fresh heap
+pub worthless-says-14 : Demand2 saysFourteen → ⊥
+worthless-says-14 d =
+    let e : _≡_ {A = ℕ} 0 1 = d .fourteen-exactly h₀ r₀ 0 two sized₀ sound₀ (omega arith) (omega arith) .0 (computed .says-14) in
+    omega arith
+
+-- 0 always: a figure 7 put and read
+pub worthless-answers-0 : Demand3 answersNought → ⊥
+worthless-answers-0 d =
+    let e : pos 0 ≡ pos 7 = computed .reads-0 (d .as-endless 1 1 2 3 r₀ (seven ∷ []) (computed .fresh-accepted)) in
+    let z : _≡_ {A = ℕ} 0 7 = cc in
+    omega arith
+
+-- a settle that frees nothing: a cell let go stays in ZCT
+pub worthless-frees-nothing : Demand2 freesNothing → ⊥
+worthless-frees-nothing d =
+    false≢true (sym (computed .nothing-unheld) ∙ d .frees-all h₁ r₁ clear₀ two (computed .nothing-accepted) 0 (rw (computed .nothing-zct) (omega arith)))
+
+-- one that frees at the first settle and then pretends
+pub worthless-frees-once : Demand2 freesOnce → ⊥
+worthless-frees-once d =
+    false≢true (sym (computed .once-unheld) ∙ d .frees-all h₁ r₁ clear₀ two (computed .once-accepted) 0 (rw (computed .once-zct) (omega arith)))
+
+-- a made-up count: an empty batch on a fresh heap frees none
+pub worthless-count : Demand2 madeUpCount → ⊥
+worthless-count d =
+    let e = d .count-is-freed h₀ r₀ [] [] [] (computed .count-calls) (computed .count-accepted) in
+    let k = computed .count-1 in
+    let f = computed .count-free in
+    omega arith

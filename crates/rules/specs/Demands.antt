@@ -1,0 +1,136 @@
+-- The letter's three demands, each sentence a named fact about ANY heap. Assumes nothing.
+use Prim.Native.Nat.{ℕ, _+_, _*_, _≤_, _<_}
+use mathlib.Core.Path.{_≡_}
+use mathlib.Core.Bool.{Bool, true, false, cond}
+use mathlib.Core.Option.{Option, none, some}
+use mathlib.Core.List.{List, [], _∷_}
+use lib.ListN.{length, getD, drop, replicate}
+use lib.IntN.{ℤ, pos, negsuc}
+use Rattle.rules.specs.declared.Head.{Head}
+use Rattle.rules.specs.declared.Call.{Call}
+use Rattle.rules.specs.declared.Call.the-variants.{New, Copy, Clear, Link, Put, Blank, Follow, Read, Same, Settle}
+use Rattle.rules.specs.Head.{sizesOf, freshHead, zeroHead}
+use Rattle.rules.specs.Call.{callsIn, isNought}
+use Rattle.rules.specs.Step.{fresh}
+use Rattle.rules.specs.Rows.{Lent, rowsOf}
+use Rattle.rules.specs.Sound.{Sound, Sized, Live, NotIn, pointersTo, heldAmong, times}
+use Rattle.rules.specs.Refusals.{After, Batched, outcome, leaves, leavesWith, cleared, accepted}
+use Rattle.rules.specs.Endless.{endless}
+use Rattle.rules.specs.Run.{Heaps, Batch, runOf, AlikeBatches, AlikeRows, AlikeRuns, Said, said, saidIn, but14, AsEndless}
+
+-- ---- 1. It refuses for the listed reasons and for no others
+
+-- the words are calls as they should be, and the answers row has two words for each
+pub record Callable (h : Head) (ws row : List ℤ) : Type 0 where
+  pub calls : List Call
+  pub decoded : callsIn (h .m) ws ≡ some calls
+  pub room : 2 * length calls ≤ length row
+
+-- the answers row is shorter than two words a call
+pub record TooShort (h : Head) (ws row : List ℤ) : Type 0 where
+  pub calls : List Call
+  pub decoded : callsIn (h .m) ws ≡ some calls
+  pub short : length row < 2 * length calls
+
+-- the status is k exactly when P, and then this is what is left
+pub record Exactly (P : Type 0) (k : ℕ) (o what : Batched) : Type 0 where
+  pub when : P → o .outcome .status ≡ k
+  pub only : o .outcome .status ≡ k → P
+  pub left : o .outcome .status ≡ k → o ≡ what
+
+pub record Demand1 (H : Heaps) : Type 0 where
+  -- refusals 1, 2 and 3 change nothing; refusal 4 only clears the work row; checks run in the order 1, 2, 3, 4
+  pub refused-1 : (h : Head) (r : Lent) (ws row : List ℤ) → Exactly (Sized h r → ⊥) 1 (H .batch h r ws row) (leavesWith (outcome 1 h 0) r row)
+  pub refused-2 : (h : Head) (r : Lent) (ws row : List ℤ) → Exactly (Sized h r × (callsIn (h .m) ws ≡ none)) 2 (H .batch h r ws row) (leavesWith (outcome 2 h 0) r row)
+  pub refused-3 : (h : Head) (r : Lent) (ws row : List ℤ) → Exactly (Sized h r × TooShort h ws row) 3 (H .batch h r ws row) (leavesWith (outcome 3 h 0) r row)
+  pub refused-4 : (h : Head) (r : Lent) (ws row : List ℤ) → Exactly (Sized h r × Callable h ws row × (Sound h r → ⊥)) 4 (H .batch h r ws row) (leavesWith (outcome 4 h 0) (cleared h r) row)
+  -- and for no others
+  pub accepted-else : (h : Head) (r : Lent) (ws row : List ℤ) → Sized h r → Callable h ws row → Sound h r → H .batch h r ws row .outcome .status ≡ 0
+  -- the work row is then zero, and answers past the last call are untouched
+  pub work-zero : (h : Head) (r : Lent) (ws row : List ℤ) → H .batch h r ws row .outcome .status ≡ 0 → H .batch h r ws row .rows .work ≡ replicate (h .n) 0
+  pub answers-past : (h : Head) (r : Lent) (ws row : List ℤ) (cs : List Call) → callsIn (h .m) ws ≡ some cs → H .batch h r ws row .outcome .status ≡ 0
+      → (length (H .batch h r ws row .answers) ≡ length row) × (drop (2 * length cs) (H .batch h r ws row .answers) ≡ drop (2 * length cs) row)
+  -- the fresh call gives only 1, with a head of zeros; else a fresh heap
+  pub fresh-refuses-only-1 : (n m l cap : ℕ) (r : Lent)
+      → ((Sized (freshHead n m l cap) r → ⊥) → H .fresh n m l cap r ≡ leaves (outcome 1 zeroHead 0) r)
+      × (Sized (freshHead n m l cap) r → H .fresh n m l cap r ≡ leaves (outcome 0 (freshHead n m l cap) 0) (rowsOf (sizesOf (freshHead n m l cap)) (fresh (sizesOf (freshHead n m l cap)))))
+  -- the audit 1 and 4
+  pub audit-refuses-only-1-and-4 : (h : Head) (r : Lent)
+      → ((Sized h r → ⊥) → H .audit h r ≡ leaves (outcome 1 h 0) r)
+      × (Sized h r → (Sound h r → ⊥) → H .audit h r ≡ leaves (outcome 4 h 0) (cleared h r))
+      × (Sized h r → Sound h r → H .audit h r ≡ leaves (outcome 0 h 0) (cleared h r))
+
+-- ---- 2. A settle leaves the tables that the 1976 rules give
+
+-- a cell not at the cap has its exact number of pointers from cells: none in ZCT, the count in MRT, else one
+pub record ExactBelowCap (h : Head) (r : Lent) : Type 0 where
+  pub none : (j : ℕ) → j < h .zct → pointersTo h r (getD (r .zct) j 0) ≡ 0
+  pub many : (j : ℕ) → j < h .mrt → getD (r .counts) j 0 < h .cap → pointersTo h r (getD (r .mrt) j 0) ≡ getD (r .counts) j 0
+  pub one : (a : ℕ) → Live (h .n) (r .kinds) a → NotIn (r .zct) (h .zct) a → NotIn (r .mrt) (h .mrt) a → pointersTo h r a ≡ 1
+
+abbrev pub isNew : Call → Bool
+isNew (New v) = true
+isNew (Copy v w) = false
+isNew (Clear v) = false
+isNew (Link v f w) = false
+isNew (Put v f x) = false
+isNew (Blank v f) = false
+isNew (Follow v f w) = false
+isNew (Read v f) = false
+isNew (Same v w) = false
+isNew Settle = false
+
+-- the cells handed out: news answered 0
+abbrev pub handedOut : List Said → ℕ
+handedOut [] = 0
+handedOut (a ∷ as′) = cond (isNew (a .call)) (cond (isNought (a .status)) 1 0) 0 + handedOut as′
+
+-- the free cells: those with the kind 3
+abbrev pub freeCells : Lent → ℕ
+freeCells r = times 3 (r .kinds)
+
+-- the words of: new v
+abbrev pub newWords : ℕ → List ℤ
+newWords v = pos 1 ∷ pos v ∷ pos 0 ∷ pos 0 ∷ []
+
+pub record Demand2 (H : Heaps) : Type 0 where
+  -- what the rules give: tables, free list, fields, answers and count
+  pub by-the-rules : (h : Head) (r : Lent) (ws row : List ℤ) (cs : List Call) → callsIn (h .m) ws ≡ some cs → H .batch h r ws row .outcome .status ≡ 0 → H .batch h r ws row ≡ accepted h r cs row
+  -- an accepted batch leaves a sound heap, which is never refused with 4
+  pub batch-sound : (h : Head) (r : Lent) (ws row : List ℤ) → H .batch h r ws row .outcome .status ≡ 0
+      → Sized (H .batch h r ws row .outcome .head) (H .batch h r ws row .rows) × Sound (H .batch h r ws row .outcome .head) (H .batch h r ws row .rows)
+  pub exact-below-cap : (h : Head) (r : Lent) (ws row : List ℤ) → H .batch h r ws row .outcome .status ≡ 0 → ExactBelowCap (H .batch h r ws row .outcome .head) (H .batch h r ws row .rows)
+  -- afterwards some variable holds each ZCT cell
+  pub frees-all : (h : Head) (r : Lent) (ws row : List ℤ) → H .batch h r ws row .outcome .status ≡ 0
+      → (j : ℕ) → j < H .batch h r ws row .outcome .head .zct → heldAmong (h .n) (H .batch h r ws row .rows .variables) (getD (H .batch h r ws row .rows .zct) j 0) (h .m) ≡ true
+  -- the count is the growth of the free cells plus the cells handed out
+  pub count-is-freed : (h : Head) (r : Lent) (ws row : List ℤ) (cs : List Call) → callsIn (h .m) ws ≡ some cs → H .batch h r ws row .outcome .status ≡ 0
+      → freeCells r + H .batch h r ws row .outcome .count ≡ freeCells (H .batch h r ws row .rows) + handedOut (said cs (H .batch h r ws row .answers))
+  -- free cells are handed out again: a new takes the first
+  pub handed-out-again : (h : Head) (r : Lent) (v : ℕ) (row : List ℤ) → Sized h r → Sound h r → v < h .m → 2 ≤ length row → h .free < h .n
+      → (getD (H .batch h r (newWords v) row .answers) 0 (negsuc 0) ≡ pos 0) × (getD (H .batch h r (newWords v) row .rows .variables) v (negsuc 0) ≡ pos (h .free))
+  -- 14 is given exactly if no cell is free (a sound heap is settled)
+  pub fourteen-exactly : (h : Head) (r : Lent) (v : ℕ) (row : List ℤ) → Sized h r → Sound h r → v < h .m → 2 ≤ length row
+      → (getD (H .batch h r (newWords v) row .answers) 0 (negsuc 0) ≡ pos 14 → h .free ≡ h .n) × (h .free ≡ h .n → getD (H .batch h r (newWords v) row .answers) 0 (negsuc 0) ≡ pos 14)
+  -- the audit says yes exactly for a sound heap
+  pub audit-exactly : (h : Head) (r : Lent) → Sized h r → (H .audit h r .outcome .status ≡ 0 → Sound h r) × (Sound h r → H .audit h r .outcome .status ≡ 0)
+
+-- ---- 3. Figures stay hidden, and reads answer as on an endless heap
+
+pub record Demand3 (H : Heaps) : Type 0 where
+  -- two runs from fresh heaps of equal sizes, with equal answers rows lent and equal batches but for the figures put:
+  -- all answers and memory agree except the figures themselves
+  pub figures-hidden : (n m l cap : ℕ) (r q : Lent) (bs cs : List Batch) → H .fresh n m l cap r .outcome .status ≡ 0 → H .fresh n m l cap q .outcome .status ≡ 0 → AlikeBatches bs cs
+      → AlikeRows (H .fresh n m l cap r .rows) (H .fresh n m l cap q .rows) × AlikeRuns bs (runOf H n m l cap r bs) (runOf H n m l cap q cs)
+  -- every read, and every test for the same cell, answers in each run as on an endless heap that never reclaims,
+  -- its calls answered 14 and its refused batches left out
+  pub as-endless : (n m l cap : ℕ) (r : Lent) (bs : List Batch) → H .fresh n m l cap r .outcome .status ≡ 0
+      → AsEndless (but14 (saidIn m bs (runOf H n m l cap r bs))) (endless m)
+
+-- ---- what the entry points' contracts promise is enough
+
+-- a heap that is ours in every outcome
+pub record Contracts (H G : Heaps) : Type 0 where
+  pub fresh-as : (n m l cap : ℕ) (r : Lent) → H .fresh n m l cap r ≡ G .fresh n m l cap r
+  pub audit-as : (h : Head) (r : Lent) → H .audit h r ≡ G .audit h r
+  pub batch-as : (h : Head) (r : Lent) (ws row : List ℤ) → H .batch h r ws row ≡ G .batch h r ws row
