@@ -1,21 +1,20 @@
 -- Counts against the pointers that there are. Assumes nothing.
-use Prim.Native.Nat.{ℕ, zero, suc, _+_, _*_, _-_, _<_, _≤_, pred}
-use mathlib.Core.Path.{_≡_, refl, sym, ap, _∙_}
+use Prim.Native.Nat.{ℕ, zero, suc, _+_, _<_, _≤_, pred}
+use mathlib.Core.Path.{_≡_, refl, sym, _∙_}
 use mathlib.Core.Logic.{_⊎_, inl, inr}
-use mathlib.Core.Bool.{Bool, true, false, not, _&&_, _||_, cond, true≢false}
-use mathlib.Core.Option.{Option, none, some}
-use mathlib.Core.List.{List, [], _∷_, _++_}
+use mathlib.Core.Bool.{Bool, true, false, cond, true≢false}
+use mathlib.Core.List.{List, [], _∷_}
 use native.Mathlib.Omega.{arith}
 use native.Mathlib.Nat.{le-of-suc-le-suc, not-suc-le-zero}
-use lib.Dec.{T, eqb, ltb}
+use lib.Dec.{eqb}
 use lib.ListN.{length, getD, set}
-use borrow.Author.Tests.{eqb-true, eqb-false, eq-eqb, ne-eqb}
+use borrow.Author.Tests.{eqb-true, eqb-false}
 use Rattle.rules.specs.declared.Field.{Field}
 use Rattle.rules.specs.declared.Field.the-variants.{Nothing, Figure, Cell, Free}
-use Rattle.rules.specs.Rules.{Tables, Transaction, allocates, creates, destroys, apply, replay}
+use Rattle.rules.specs.Rules.{Tables, Transaction, creates, destroys, apply, replay}
 use Rattle.rules.specs.Settle.{drops}
-use Rattle.rules.proofs.Invariant.{hit, refs, view, count, okV, named, Counted}
-use Rattle.rules.proofs.Tables.{view-other, up, down, count-create, count-destroy, count-other, ok-at-create, ok-at-destroy, eqb-self}
+use Rattle.rules.proofs.Invariant.{hit, refs, count, named, Counted}
+use Rattle.rules.proofs.Tables.{view-other, up, down, count-create, count-destroy, ok-at-create, ok-at-destroy}
 
 pub refs-set : (fs : List Field) (i : ℕ) (x : Field) (a : ℕ) → i < length fs → refs (set fs i x) a + hit (getD fs i Nothing) a ≡ refs fs a + hit x a
 refs-set [] i x a h = absurd (not-suc-le-zero h)

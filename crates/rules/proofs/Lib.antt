@@ -2,3 +2,4 @@ pub mod Answers
 pub mod Invariant
 pub mod Tables
 pub mod Exact
+pub mod Sorted

@@ -1,14 +1,13 @@
 -- The two tables seen at one address, and the count that they stand for. Assumes nothing.
-use Prim.Native.Nat.{ℕ, zero, suc, _+_, _*_, _-_, _<_, _≤_, pred}
-use mathlib.Core.Path.{_≡_, refl, sym, ap, _∙_}
-use mathlib.Core.Logic.{_⊎_, inl, inr}
-use mathlib.Core.Bool.{Bool, true, false, not, _&&_, _||_, cond}
-use mathlib.Core.List.{List, [], _∷_, _++_}
+use Prim.Native.Nat.{ℕ, zero, suc, _<_, _≤_, pred}
+use mathlib.Core.Path.{_≡_, refl, sym}
+use mathlib.Core.Bool.{Bool, true, false, _||_, cond}
+use mathlib.Core.List.{List, [], _∷_}
 use native.Mathlib.Omega.{arith}
-use lib.Dec.{T, eqb, ltb, eqb-refl}
+use lib.Dec.{eqb, ltb}
 use borrow.Author.Tests.{eqb-true, eqb-false, eq-eqb, ne-eqb}
 use Rattle.rules.specs.Table.{Entry, entry, has, insert, remove, countIn, enter, delete}
-use Rattle.rules.specs.Rules.{Tables, Transaction, allocates, creates, destroys, enterZct, leaveZct, enterMrt, leaveMrt, onCreate, onDestroy, apply, replay}
+use Rattle.rules.specs.Rules.{Tables, Transaction, allocates, creates, destroys, enterZct, leaveZct, enterMrt, leaveMrt, onCreate, onDestroy, apply}
 use Rattle.rules.proofs.Invariant.{View, view, countOf, countV, count, okOf, okV, named}
 
 pub eqb-self : (a : ℕ) → eqb a a ≡ true
