@@ -3,3 +3,4 @@ pub mod Invariant
 pub mod Tables
 pub mod Exact
 pub mod Sorted
+pub mod Reclaim
