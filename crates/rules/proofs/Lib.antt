@@ -4,3 +4,4 @@ pub mod Tables
 pub mod Exact
 pub mod Sorted
 pub mod Reclaim
+pub mod FreeList

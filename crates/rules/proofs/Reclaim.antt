@@ -1,6 +1,6 @@
 -- Freeing a cell keeps the counts exact, and reclaiming ends with no cell of the zero count table unheld. Assumes nothing.
 use Prim.Native.Nat.{ℕ, zero, suc, _+_, _*_, _<_, _≤_}
-use mathlib.Core.Path.{_≡_, refl, sym, ap, _∙_}
+use mathlib.Core.Path.{_≡_, refl, sym, ap, _∙_, subst}
 use mathlib.Core.Logic.{_⊎_, inl, inr}
 use mathlib.Core.Bool.{Bool, true, false, _||_, cond, true≢false, false≢true}
 use mathlib.Core.Option.{Option, none, some}
@@ -11,12 +11,14 @@ use lib.ListN.{length, getD, set, length-set, List·getD-eq-default}
 use lib.Seq.{getD-set-same, getD-set-other}
 use borrow.Author.Tests.{eqb-true, eqb-false, eq-eqb, ltb-true, ltb-false}
 use Rattle.rules.specs.declared.Field.{Field}
-use Rattle.rules.specs.declared.Field.the-variants.{Nothing, Free}
+use Rattle.rules.specs.declared.Field.the-variants.{Nothing, Figure, Cell, Free}
 use Rattle.rules.specs.Table.{has, countIn}
 use Rattle.rules.specs.Rules.{Tables, Transaction, apply, replay, leaveZct}
 use Rattle.rules.specs.Settle.{Heap, drops, holds, pick, onPick, place, field, store, freeCell, reclaim}
-use Rattle.rules.proofs.Invariant.{hit, refs, used, live, view, count, okOf, Counted, Good, Done}
-use Rattle.rules.proofs.Tables.{remove-own, remove-other}
+use Rattle.rules.specs.Rows.{Kept}
+use Rattle.rules.proofs.Invariant.{hit, refs, used, live, view, count, okOf, Counted, Good, Done, Fitting, Small}
+use Rattle.rules.proofs.Tables.{eqb-self, remove-own, remove-other}
+use Rattle.rules.proofs.Sorted.{leaveZct-kept, replay-kept, small-append}
 use Rattle.rules.proofs.Exact.{refs-set, drop-counted}
 
 -- ---- what `pick` finds
@@ -91,6 +93,74 @@ pub replay-append : (cap : ℕ) (l₁ l₂ : List Transaction) (t : Tables) → 
 unfolding replay
 replay-append cap [] l₂ t = refl
 replay-append cap (x ∷ l₁) l₂ t = replay-append cap l₁ l₂ (apply cap x t)
+
+-- a cell in use is below n
+pub live-below : (n : ℕ) (fs : List Field) → length fs ≡ 2 * n → (a : ℕ) → live fs a ≡ true → a < n
+unfolding place
+live-below n fs e a l = let h = live-in fs a l in omega arith
+
+pub place-in : (n : ℕ) (fs : List Field) → length fs ≡ 2 * n → (a f : ℕ) → f < 2 → live fs a ≡ true → place a f < length fs
+unfolding place
+place-in n fs e a f h l = let k = place-in-1 n a fs e l in omega arith
+
+-- what a pointer of a cell in use names is in use
+pub cell-live : (n cap : ℕ) (fs : List Field) (hs : List (Option ℕ)) (t : Tables) → Good n cap fs hs t → (a f b : ℕ) → f < 2 → live fs a ≡ true → field fs a f ≡ Cell b → live fs b ≡ true
+cell-live n cap fs hs t g a f b h l e = go (live fs b) refl
+  where
+    go : (q : Bool) → live fs b ≡ q → live fs b ≡ true
+    go true d = d
+    go false d =
+        let r = refs-store fs a f b Nothing (place-in n fs (g .len) a f h l) in
+        let r1 : refs (store fs a f Nothing) b + cond (eqb b b) 1 0 ≡ refs fs b + 0 = rw e at r in
+        let r2 = rw (eqb-self b) at r1 in
+        let z = g .counted b .gone d .1 in
+        absurd (omega arith)
+
+-- the destroy that goes with a field names a cell below n
+pub drops-small : (n cap : ℕ) (fs : List Field) (hs : List (Option ℕ)) (t : Tables) → Good n cap fs hs t → (a f : ℕ) → f < 2 → live fs a ≡ true → Small n (drops (field fs a f))
+unfolding drops
+drops-small n cap fs hs t g a f h l = go (field fs a f) refl
+  where
+    go : (x : Field) → field fs a f ≡ x → Small n (drops x)
+    go Nothing e = tt
+    go (Figure y) e = tt
+    go (Cell b) e = (live-below n fs (g .len) b (cell-live n cap fs hs t g a f b h l e), tt)
+    go (Free b) e = tt
+
+-- ---- no free mark in field 1, and figures fit
+
+abbrev pub Plain1 : List Field → Type 0
+Plain1 fs = (a b : ℕ) → field fs a 1 ≡ Free b → ⊥
+
+abbrev pub Figures : List Field → Type 0
+Figures fs = (i : ℕ) → Fitting (getD fs i Nothing)
+
+pub getD-set-either : {A : Type 0} (l : List A) (i j : ℕ) (x d : A) → (getD (set l i x) j d ≡ x) ⊎ (getD (set l i x) j d ≡ getD l j d)
+getD-set-either [] i j x d = inr refl
+getD-set-either (y ∷ l) zero zero x d = inl refl
+getD-set-either (y ∷ l) zero (suc j) x d = inr refl
+getD-set-either (y ∷ l) (suc i) zero x d = inr refl
+getD-set-either (y ∷ l) (suc i) (suc j) x d = getD-set-either l i j x d
+
+pub plain-store-0 : (fs : List Field) (a : ℕ) (x : Field) → Plain1 fs → Plain1 (store fs a 0 x)
+unfolding field store
+plain-store-0 fs a x p c b e = p c b (sym (getD-set-other fs (place a 0) (place c 1) x Nothing (λ d. let h = places c a 1 0 d (omega arith) (omega arith) in omega arith)) ∙ e)
+
+pub plain-store : (fs : List Field) (a f : ℕ) (x : Field) → used x ≡ true → Plain1 fs → Plain1 (store fs a f x)
+unfolding field store
+plain-store fs a f x u p c b e = go (getD-set-either fs (place a f) (place c 1) x Nothing)
+  where
+    go : (getD (set fs (place a f) x) (place c 1) Nothing ≡ x) ⊎ (getD (set fs (place a f) x) (place c 1) Nothing ≡ getD fs (place c 1) Nothing) → ⊥
+    go (inl d) = true≢false (sym u ∙ ap used (sym d ∙ e))
+    go (inr d) = p c b (sym d ∙ e)
+
+pub figures-store : (fs : List Field) (a f : ℕ) (x : Field) → Fitting x → Figures fs → Figures (store fs a f x)
+unfolding store
+figures-store fs a f x u p i = go (getD-set-either fs (place a f) i x Nothing)
+  where
+    go : (getD (set fs (place a f) x) i Nothing ≡ x) ⊎ (getD (set fs (place a f) x) i Nothing ≡ getD fs i Nothing) → Fitting (getD (set fs (place a f) x) i Nothing)
+    go (inl d) = subst Fitting (sym d) u
+    go (inr d) = subst Fitting (sym d) (p i)
 
 -- ---- freeing a cell
 
@@ -296,3 +366,25 @@ module _ (n cap : ℕ) (cap3 : 3 ≤ cap) (hs : List (Option ℕ)) where
   unfolding reclaim
   reclaim-idle zero h d = refl
   reclaim-idle (suc k) h d = rw d
+
+  pub reclaim-plain : (k : ℕ) (h : Heap) → G h → Plain1 (h .shape .fields) → Plain1 (reclaim cap hs k h .shape .fields)
+  unfolding freeCell
+  reclaim-plain =
+      reclaim-keeps (λ h. Plain1 (h .shape .fields))
+      (λ h a g e p. plain-store (store (h .shape .fields) a 0 (Free (h .first))) a 1 Nothing refl (plain-store-0 (h .shape .fields) a (Free (h .first)) p))
+
+  pub reclaim-figures : (k : ℕ) (h : Heap) → G h → Figures (h .shape .fields) → Figures (reclaim cap hs k h .shape .fields)
+  unfolding freeCell
+  reclaim-figures =
+      reclaim-keeps (λ h. Figures (h .shape .fields))
+      (λ h a g e p. figures-store (store (h .shape .fields) a 0 (Free (h .first))) a 1 Nothing tt (figures-store (h .shape .fields) a 0 (Free (h .first)) tt p))
+
+  pub reclaim-kept : (k : ℕ) (h : Heap) → G h → Kept n cap (h .tables) → Kept n cap (reclaim cap hs k h .tables)
+  unfolding freeCell
+  reclaim-kept =
+      reclaim-keeps (λ h. Kept n cap (h .tables))
+      (λ h a g e p.
+      let l = freeCell-live h g a e in
+      let at : (f : ℕ) → f < 2 → Small n (drops (field (h .shape .fields) a f)) = λ f i. drops-small n cap (h .shape .fields) hs (h .tables) g a f i l in
+      replay-kept n cap cap3 (drops (field (h .shape .fields) a 0) ++ drops (field (h .shape .fields) a 1)) (leaveZct a (h .tables)) (leaveZct-kept n cap cap3 (h .tables) p a)
+      (small-append n (drops (field (h .shape .fields) a 0)) (drops (field (h .shape .fields) a 1)) (at 0 (omega arith)) (at 1 (omega arith))))
