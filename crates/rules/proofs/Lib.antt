@@ -5,3 +5,4 @@ pub mod Exact
 pub mod Sorted
 pub mod Reclaim
 pub mod FreeList
+pub mod Calls

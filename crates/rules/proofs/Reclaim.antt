@@ -284,6 +284,18 @@ lives-freed fs a k l h =
     let e0 = rw l at (lives-set fs a (2 * a + 0) (Free k) (omega arith) (omega arith)) in
     omega arith
 
+-- any other write to a cell in use
+pub lives-store : (fs : List Field) (a f : ℕ) (x : Field) → f < 2 → used x ≡ true → live fs a ≡ true → place a 1 < length fs → lives (store fs a f x) ≡ lives fs
+unfolding store live place
+lives-store fs a zero x i u l h = let e = rw (l, u) at (lives-set fs a (2 * a + 0) x (omega arith) (omega arith)) in omega arith
+lives-store fs a (suc zero) x i u l h = lives-odd fs a (2 * a + 1) x refl
+lives-store fs a (suc (suc f)) x i u l h = absurd (omega arith)
+
+-- a free cell that is taken
+pub lives-taken : (fs : List Field) (a : ℕ) → live fs a ≡ false → place a 1 < length fs → lives (store fs a 0 Nothing) ≡ suc (lives fs)
+unfolding store live place
+lives-taken fs a l h = let e = rw l at (lives-set fs a (2 * a + 0) Nothing (omega arith) (omega arith)) in omega arith
+
 module _ (n cap : ℕ) (cap3 : 3 ≤ cap) (hs : List (Option ℕ)) where
   abbrev G : Heap → Type 0
   G h = Good n cap (h .shape .fields) hs (h .tables)
