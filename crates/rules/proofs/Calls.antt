@@ -2,13 +2,15 @@
 use Prim.Native.Nat.{ℕ, zero, suc, _<_, _≤_}
 use mathlib.Core.Path.{_≡_, refl, sym, ap, _∙_, subst}
 use mathlib.Core.Logic.{_⊎_, inl, inr}
-use mathlib.Core.Bool.{Bool, true, false, _&&_, _||_, cond}
+use mathlib.Core.Bool.{Bool, true, false, _&&_, _||_, cond, false≢true}
 use mathlib.Core.Option.{Option, none, some}
 use mathlib.Core.List.{List, [], _∷_, _++_, append-nil}
 use native.Mathlib.Omega.{arith}
-use lib.Dec.{eqb}
+use lib.Dec.{eqb, leb}
+use lib.IntN.{ℤ, pos, negsuc}
+use lib.Signed.{mag}
 use lib.ListN.{length, getD, set, length-set, length-append}
-use borrow.Author.Tests.{eqb-true, eq-eqb}
+use borrow.Author.Tests.{eqb-true, eq-eqb, ltb-true}
 use Rattle.rules.specs.declared.Field.{Field}
 use Rattle.rules.specs.declared.Field.the-variants.{Nothing, Figure, Cell, Free}
 use Rattle.rules.specs.declared.Call.{Call}
@@ -17,7 +19,7 @@ use Rattle.rules.specs.Head.{Sizes}
 use Rattle.rules.specs.Field.{Signed32}
 use Rattle.rules.specs.Rules.{Tables, Transaction, replay}
 use Rattle.rules.specs.Settle.{Shape, drops, holds, field, store}
-use Rattle.rules.specs.Call.{var, at, isHeld, isCell, want, orElse, check, makes, logs, write, hold, toCell, target, act}
+use Rattle.rules.specs.Call.{var, at, isHeld, isCell, want, orElse, check, makes, logs, write, hold, toCell, target, act, isBelow, isNought, isSigned32, given, number, callOf, andThen, callsOf, callsIn}
 use Rattle.rules.proofs.Invariant.{hit, refs, used, live, Counted, Good, Fitting, Small}
 use Rattle.rules.proofs.Exact.{gains, drop-counted, gain-counted}
 use Rattle.rules.proofs.Sorted.{small-append}
@@ -293,3 +295,70 @@ module _ (s : Sizes) (ok : SizesOk s) (sh : Shape) (t : Tables) (g : Good (s .n)
   logs-small (Read v f) h = tt
   logs-small (Same v w) h = tt
   logs-small Settle h = tt
+
+-- ---- calls that words give
+
+-- P of what there is, if there is anything
+abbrev Only : {A : Type 0} → (A → Type 0) → Option A → Type 0
+Only {A} P o = (x : A) → o ≡ some x → P x
+
+only-cond : {A : Type 0} (P : A → Type 0) (q : Bool) (l r : Option A) → Only P l → Only P r → Only P (cond q l r)
+only-cond P true l r f g = f
+only-cond P false l r f g = g
+
+only-none : {A : Type 0} (P : A → Type 0) → Only P none
+only-none P x e = absurd (let z : _≡_ {A = ℕ} 0 1 = cc in omega arith)
+
+only-given : (P : Call → Type 0) (q : Bool) (c : Call) → (q ≡ true → P c) → Only P (given q c)
+only-given P true c f x e = let d : c ≡ x = cc in subst P d (f refl)
+only-given P false c f x e = absurd (let z : _≡_ {A = ℕ} 0 1 = cc in omega arith)
+
+all-three : (p q r : Bool) → (p && q && r) ≡ true → (p ≡ true) × ((q ≡ true) × (r ≡ true))
+all-three true true r e = (refl, (refl, e))
+all-three true false r e = absurd (false≢true e)
+all-three false q r e = absurd (false≢true e)
+
+number-below : (m : ℕ) (x : ℤ) → isBelow m x ≡ true → number x < m
+number-below m (pos a) e = ltb-true a m e
+number-below m (negsuc a) e = absurd (false≢true e)
+
+pub call-fits : (s : Sizes) (op a b c : ℤ) (x : Call) → callOf (s .m) op a b c ≡ some x → Fits s x
+unfolding callOf
+call-fits s op a b c =
+    also 1 (isBelow m a) (isNought b) (isNought c) (New (number a)) (λ p q r. var a p)
+    (also 2 (isBelow m a) (isBelow m b) (isNought c) (Copy (number a) (number b)) (λ p q r. (var a p, var b q))
+    (also 3 (isBelow m a) (isNought b) (isNought c) (Clear (number a)) (λ p q r. var a p)
+    (also 4 (isBelow m a) (isBelow 2 b) (isBelow m c) (Link (number a) (number b) (number c)) (λ p q r. (number-below 2 b q, (var a p, var c r)))
+    (also 5 (isBelow m a) (isBelow 2 b) (isSigned32 c) (Put (number a) (number b) c) (λ p q r. (number-below 2 b q, (var a p, ltb-true (mag c) 2147483648 r)))
+    (also 6 (isBelow m a) (isBelow 2 b) (isNought c) (Blank (number a) (number b)) (λ p q r. (number-below 2 b q, var a p))
+    (also 7 (isBelow m a) (isBelow 2 b) (isBelow m c) (Follow (number a) (number b) (number c)) (λ p q r. (number-below 2 b q, (var a p, var c r)))
+    (also 8 (isBelow m a) (isBelow 2 b) (isNought c) (Read (number a) (number b)) (λ p q r. (number-below 2 b q, var a p))
+    (also 9 (isBelow m a) (isBelow m b) (isNought c) (Same (number a) (number b)) (λ p q r. (var a p, var b q))
+    (also 10 (isNought a) (isNought b) (isNought c) Settle (λ p q r. tt) (only-none (Fits s)))))))))))
+  where
+    m : ℕ
+    m = s .m
+
+    var : (x : ℤ) → isBelow m x ≡ true → number x < m
+    var x e = number-below m x e
+
+    also : (k : ℕ) (p q r : Bool) (x : Call) {o : Option Call} → (p ≡ true → q ≡ true → r ≡ true → Fits s x) → Only (Fits s) o
+        → Only (Fits s) (cond (eqb (number op) k) (given (p && q && r) x) o)
+    also k p q r x {o} f g = only-cond (Fits s) (eqb (number op) k) (given (p && q && r) x) o (only-given (Fits s) (p && q && r) x (λ e. let t = all-three p q r e in f (t .0) (t .1 .0) (t .1 .1))) g
+
+then-fit : (s : Sizes) (o : Option Call) (r : Option (List Call)) → Only (Fits s) o → Only (AllFit s) r → Only (AllFit s) (andThen o r)
+then-fit s none r f g = only-none (AllFit s)
+then-fit s (some c) none f g = only-none (AllFit s)
+then-fit s (some c) (some cs) f g = λ x e. let d : c ∷ cs ≡ x = cc in subst (AllFit s) d (f c refl, g cs refl)
+
+pub calls-fit : (s : Sizes) (ws : List ℤ) (cs : List Call) → callsOf (s .m) ws ≡ some cs → AllFit s cs
+unfolding callsOf
+calls-fit s [] = λ x e. let d : [] ≡ x = cc in subst (AllFit s) d tt
+calls-fit s (op ∷ []) = only-none (AllFit s)
+calls-fit s (op ∷ a ∷ []) = only-none (AllFit s)
+calls-fit s (op ∷ a ∷ b ∷ []) = only-none (AllFit s)
+calls-fit s (op ∷ a ∷ b ∷ c ∷ ws) = then-fit s (callOf (s .m) op a b c) (callsOf (s .m) ws) (call-fits s op a b c) (calls-fit s ws)
+
+pub calls-in-fit : (s : Sizes) (ws : List ℤ) (cs : List Call) → callsIn (s .m) ws ≡ some cs → AllFit s cs
+unfolding callsIn
+calls-in-fit s ws = only-cond (AllFit s) (leb (length ws) 1024) (callsOf (s .m) ws) none (calls-fit s ws) (only-none (AllFit s))
