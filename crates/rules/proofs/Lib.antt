@@ -1,2 +1,4 @@
 pub mod Answers
 pub mod Invariant
+pub mod Fine
+pub mod Roundtrip
