@@ -2,3 +2,9 @@ pub mod Answers
 pub mod Invariant
 pub mod Fine
 pub mod Roundtrip
+pub mod Tables
+pub mod Exact
+pub mod Sorted
+pub mod Reclaim
+pub mod FreeList
+pub mod Calls

@@ -185,15 +185,17 @@ module _ {h : Head} {r : Lent} (Z : Sized h r) where
         let l = Z .lengths in
         let m = Z .limits in
         let e = mrt-long ∙ sym counts-long in
-        rw (kinds-again (r .kinds) (r .values) (omega arith) fits,
-        values-again (r .kinds) (r .values) (omega arith) fits,
-        variables-again (h .n) (r .kinds) (r .variables) (S .variables),
-        pad-again (h .n) (h .zct) (r .zct) (l .for-zct) (m .zct-most) (S .zct-zeros),
-        addresses-again (take (h .mrt) (r .mrt)) (take (h .mrt) (r .counts)) e,
-        counts-again (take (h .mrt) (r .mrt)) (take (h .mrt) (r .counts)) e,
-        pad-again (h .n) (h .mrt) (r .mrt) (l .for-mrt) (m .mrt-most) (S .mrt-zeros),
-        pad-again (h .n) (h .mrt) (r .counts) (l .for-counts) (m .mrt-most) (S .counts-zeros),
-        pad-again (2 * h .l) 0 (r .log) (l .for-log) zero-le (S .log-zero))
+        rw (
+          kinds-again (r .kinds) (r .values) (omega arith) fits,
+          values-again (r .kinds) (r .values) (omega arith) fits,
+          variables-again (h .n) (r .kinds) (r .variables) (S .variables),
+          pad-again (h .n) (h .zct) (r .zct) (l .for-zct) (m .zct-most) (S .zct-zeros),
+          addresses-again (take (h .mrt) (r .mrt)) (take (h .mrt) (r .counts)) e,
+          counts-again (take (h .mrt) (r .mrt)) (take (h .mrt) (r .counts)) e,
+          pad-again (h .n) (h .mrt) (r .mrt) (l .for-mrt) (m .mrt-most) (S .mrt-zeros),
+          pad-again (h .n) (h .mrt) (r .counts) (l .for-counts) (m .mrt-most) (S .counts-zeros),
+          pad-again (2 * h .l) 0 (r .log) (l .for-log) zero-le (S .log-zero),
+        )
 
 -- ---- lengths
 
