@@ -8,3 +8,4 @@ pub mod Sorted
 pub mod Reclaim
 pub mod FreeList
 pub mod Calls
+pub mod Unique
