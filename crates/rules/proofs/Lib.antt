@@ -9,3 +9,4 @@ pub mod Reclaim
 pub mod FreeList
 pub mod Calls
 pub mod Unique
+pub mod Whole
