@@ -1,12 +1,12 @@
 -- Two heaps equal but for the figures have rows equal but for the figures; so have two batches' words and answers. Assumes nothing.
-use Prim.Native.Nat.{ℕ, zero, suc, _+_, _*_, _<_, _≤_}
-use mathlib.Core.Path.{_≡_, refl, sym, ap, _∙_, subst}
-use mathlib.Core.Logic.{_⊎_, inl, inr}
+use Prim.Native.Nat.{ℕ, suc, _*_}
+use mathlib.Core.Path.{_≡_, refl, sym, ap, _∙_}
+use mathlib.Core.Logic.{inl, inr}
 use mathlib.Core.Bool.{Bool, true, false, cond, _&&_, false≢true}
 use mathlib.Core.Option.{Option, none, some}
 use mathlib.Core.List.{List, [], _∷_, _++_, map}
 use native.Mathlib.Omega.{arith}
-use lib.Dec.{eqb, ltb, leb}
+use lib.Dec.{eqb, leb}
 use lib.IntN.{ℤ, pos, negsuc}
 use lib.Signed.{mag}
 use lib.ListN.{length, getD, drop, length-map, List·getD-map}
@@ -16,13 +16,13 @@ use Rattle.rules.specs.declared.Field.the-variants.{Nothing, Figure, Cel
 use Rattle.rules.specs.declared.Call.{Call}
 use Rattle.rules.specs.declared.Call.the-variants.{New, Copy, Clear, Link, Put, Blank, Follow, Read, Same, Settle}
 use Rattle.rules.specs.Head.{Sizes}
-use Rattle.rules.specs.Field.{Signed32, kindOf, valueOf}
-use Rattle.rules.specs.Settle.{Shape, Heap}
+use Rattle.rules.specs.Field.{kindOf, valueOf}
+use Rattle.rules.specs.Settle.{Heap}
 use Rattle.rules.specs.Call.{Answer, isBelow, isNought, isSigned32, given, number, callBy, callOf, andThen, callsOf, callsIn}
-use Rattle.rules.specs.Rows.{Lent, rowsOf, headOf}
+use Rattle.rules.specs.Rows.{rowsOf, headOf}
 use Rattle.rules.specs.Refusals.{answerWords, answered}
-use Rattle.rules.specs.Run.{AlikeWord, AlikeCalls, AlikeRows, IsRead, AlikeAnswers}
-use Rattle.rules.proofs.Erase.{eraseF, eraseC, eraseS, erase, isRead, Figured, SameCalls, SameAnswers}
+use Rattle.rules.specs.Run.{AlikeWord, AlikeCalls, AlikeRows, AlikeAnswers}
+use Rattle.rules.proofs.Erase.{eraseF, eraseC, erase, isRead, SameCalls, SameAnswers}
 
 -- ---- rows
 
@@ -143,8 +143,7 @@ calls-alike m (op ∷ a ∷ b ∷ x ∷ ws) (op′ ∷ []) e = absurd e
 calls-alike m (op ∷ a ∷ b ∷ x ∷ ws) (op′ ∷ a′ ∷ []) e = absurd e
 calls-alike m (op ∷ a ∷ b ∷ x ∷ ws) (op′ ∷ a′ ∷ b′ ∷ []) e = absurd e
 calls-alike m (op ∷ a ∷ b ∷ x ∷ ws) (op′ ∷ a′ ∷ b′ ∷ y ∷ vs) e =
-    let r = calls-alike m ws vs (e .4) in
-    (
+    let r = calls-alike m ws vs (e .4) in (
       ap (λ n. suc (suc (suc (suc n)))) (r .0),
       rw (← e .0, ← e .1, ← e .2) (and-then (callOf m op a b x) (callOf m op a b y) (callsOf m ws) (callsOf m vs) (call-alike m op a b x y (e .3)) (r .1)),
     )
