@@ -1,4 +1,4 @@
--- Figures are hidden: two runs from fresh heaps, equal but for the figures put, agree in all but the figures themselves. Assumes nothing.
+-- Figures are hidden: two runs from fresh heaps, equal but for the figures put, agree in all but the figures themselves, given what a batch of a run does (the section's parameters). Assumes nothing.
 use Prim.Native.Nat.{ℕ, _*_}
 use mathlib.Core.Path.{_≡_, refl, ap}
 use mathlib.Core.Bool.{Bool, true, false, cond}
@@ -41,16 +41,16 @@ left s h none row = h
 left s h (some cs) row = leftBy s h cs (leb (2 * length cs) (length row))
 
 -- head and rows are those of a heap
-record Are (s : Sizes) (h : Heap) (o : Batched) : Type 0 where
+record LeftAs (s : Sizes) (h : Heap) (o : Batched) : Type 0 where
   pub head : o .outcome .head ≡ headOf s h
   pub rows : o .rows ≡ rowsOf s h
 
-are-left : (s : Sizes) (h : Heap) (o : Option (List Call)) (row : List ℤ) → Are s (left s h o row) (batchFrom s h o row)
+left-as : (s : Sizes) (h : Heap) (o : Option (List Call)) (row : List ℤ) → LeftAs s (left s h o row) (batchFrom s h o row)
 unfolding batchFrom
-are-left s h none row = record { head = refl; rows = refl }
-are-left s h (some cs) row = go (leb (2 * length cs) (length row))
+left-as s h none row = record { head = refl; rows = refl }
+left-as s h (some cs) row = go (leb (2 * length cs) (length row))
   where
-    go : (q : Bool) → Are s (leftBy s h cs q) (byRoom s h cs row q)
+    go : (q : Bool) → LeftAs s (leftBy s h cs q) (byRoom s h cs row q)
     go true = record { head = refl; rows = refl }
     go false = record { head = refl; rows = refl }
 
@@ -105,7 +105,7 @@ twins s h k ws row (some cs) (some ds) i d e = rw (← same-length cs ds d) (go 
 -- ---- runs
 
 -- an accepted fresh heap
-fresh-is : (n m l cap : ℕ) (r : Lent) → freshOf n m l cap r .outcome .status ≡ 0
+pub fresh-is : (n m l cap : ℕ) (r : Lent) → freshOf n m l cap r .outcome .status ≡ 0
     → freshOf n m l cap r ≡ leaves (outcome 0 (headOf (sizesOf (freshHead n m l cap)) (fresh (sizesOf (freshHead n m l cap)))) 0) (rowsOf (sizesOf (freshHead n m l cap)) (fresh (sizesOf (freshHead n m l cap))))
 unfolding freshOf headOf fresh
 fresh-is n m l cap r e = go (isSized (freshHead n m l cap) r) e
@@ -142,7 +142,7 @@ module _
     unfolding runFrom
     one-batch s f h e b bs =
         let o = callsIn (s .m) (b .calls) in
-        let a = are-left s h o (b .answers) in
+        let a = left-as s h o (b .answers) in
         rw (inRun s f h e (b .calls) (b .answers), a .head, a .rows)
 
     runs-alike : (s : Sizes) → Fine s → (h k : Heap) → Ended s h → Ended s k → erase h ≡ erase k → (bs cs : List Batch) → AlikeBatches bs cs
