@@ -16,3 +16,7 @@ pub mod Step
 pub mod Fresh
 pub mod Unique
 pub mod Whole
+pub mod Erase
+pub mod Alike
+pub mod Runs
+pub mod Figures
