@@ -7,3 +7,4 @@ pub mod Reclaim
 pub mod FreeList
 pub mod Calls
 pub mod Positions
+pub mod Bridge

@@ -1,23 +1,21 @@
 -- The same facts by position, as the rows have them, and by list, as the heap has them. Assumes nothing.
 use Prim.Native.Nat.{ℕ, zero, suc, _+_, _*_, _-_, _<_, _≤_}
-use mathlib.Core.Path.{_≡_, refl, sym, ap, _∙_, subst}
+use mathlib.Core.Path.{_≡_, refl, sym, ap, _∙_}
 use mathlib.Core.Logic.{_⊎_, inl, inr}
 use mathlib.Core.Bool.{Bool, true, false, _||_, cond, true≢false, false≢true}
 use mathlib.Core.Option.{Option, none, some}
 use mathlib.Core.List.{List, [], _∷_, _++_, map}
 use native.Mathlib.Omega.{arith}
-use native.Mathlib.Numerals.{add-one}
-use lib.Dec.{eqb, ltb, leb}
+use lib.Dec.{eqb, ltb}
 use lib.IntN.{ℤ, pos, negsuc}
-use lib.ListN.{length, getD, replicate, length-append, length-map, length-replicate, getD-replicate, List·getD-append, List·getD-map, List·getD-eq-default}
-use lib.Seq.{getD-append-add}
-use borrow.Author.Tests.{eqb-true, eqb-false, eq-eqb, ne-eqb, ltb-true, ltb-false, leb-true, leb-false}
+use lib.ListN.{length, getD, replicate, length-map, List·getD-append, List·getD-map, List·getD-eq-default}
+use borrow.Author.Tests.{eqb-true, eqb-false, eq-eqb, ne-eqb, ltb-true, ltb-false}
 use Rattle.rules.specs.declared.Field.{Field}
 use Rattle.rules.specs.declared.Field.the-variants.{Nothing, Figure, Cell, Free}
-use Rattle.rules.specs.Field.{Signed32, kindOf, valueOf, variableOf, addressOf}
-use Rattle.rules.specs.Table.{Entry, has, countIn, addresses, counts, pad, All, Above, Below, Ascending}
+use Rattle.rules.specs.Field.{kindOf, valueOf, variableOf, addressOf}
+use Rattle.rules.specs.Table.{Entry, has, countIn, addresses, counts, pad, All, Ascending}
 use Rattle.rules.specs.Settle.{holds, place, field}
-use Rattle.rules.specs.Sound.{Live, Word, Words, Variables, ZeroFrom, kind, word, mark, pointsTo, pointers, heldAmong, next, Path, times}
+use Rattle.rules.specs.Sound.{Live, Word, ZeroFrom, kind, word, mark, pointsTo, pointers, heldAmong, next, Path, times}
 use Rattle.rules.proofs.Invariant.{hit, refs, used, live, Chain}
 
 -- ---- lists
@@ -245,6 +243,12 @@ kind-used (Figure x) d = refl
 kind-used (Cell a) d = refl
 kind-used (Free a) d = absurd (d refl)
 
+dead-kind : (f : Field) → used f ≡ false → kindOf f ≡ 3
+dead-kind Nothing e = absurd (true≢false e)
+dead-kind (Figure x) e = absurd (true≢false e)
+dead-kind (Cell a) e = absurd (true≢false e)
+dead-kind (Free a) e = refl
+
 -- a is free, and b follows it
 pub record FreeAt (n : ℕ) (ks : List ℕ) (xs : List ℤ) (a b : ℕ) : Type 0 where
   pub cell : a < n
@@ -278,6 +282,10 @@ module _ (n : ℕ) (fs : List Field) (len : length fs ≡ 2 * n) where
   pub at-live : (b : ℕ) → Live n (map kindOf fs) b → live fs b ≡ true
   unfolding live
   at-live b l = kind-used (getD fs (place b 0) (Free 0)) (λ k. l .used (mark-of b (l .cell) ∙ k))
+
+  pub dead-at : (b : ℕ) → b < n → live fs b ≡ false → mark (map kindOf fs) b ≡ 3
+  unfolding live
+  dead-at b h e = mark-of b h ∙ dead-kind (getD fs (place b 0) (Free 0)) e
 
   -- ---- the free list
 
