@@ -20,3 +20,5 @@ pub mod Erase
 pub mod Alike
 pub mod Runs
 pub mod Figures
+pub mod Positions
+pub mod Bridge
