@@ -20,20 +20,10 @@ use Rattle.rules.specs.Rules.{Tables, replay}
 use Rattle.rules.specs.Settle.{Heap, holds, pick, place, field}
 use Rattle.rules.specs.Rows.{rowsOf, headOf, Kept}
 use Rattle.rules.specs.Sound.{Live, Mark, Word, Words, Variables, TableRow, NotIn, Ranged, kind, word, mark, pointers, heldAmong, times, FreeList, Sound}
+use Rattle.rules.proofs.Fine.{Fine}
 use Rattle.rules.proofs.Invariant.{refs, live, view, countOf, okOf, Counted, Good, Frees, Fitting, Done, Ended}
 use Rattle.rules.proofs.Reclaim.{pick-some, pick-none}
 use Rattle.rules.proofs.Positions.{getD-any, has-at, at-has, not-has, all-at, at-all, up-at, at-up, count-at, at-count, not-counted, pad-at, pad-zero, refs-pointers, holds-held, holds-at, at-holds, kind-at, kind-nothing, inside, live-at, at-live, dead-at, chain-path, path-chain, off-path, on-chain, word-of, of-word, place-of, no-refs, some-refs}
-
--- the limits of the sizes
-pub record Fine (s : Sizes) : Type 0 where
-  pub n-least : 1 ≤ s .n
-  pub n-most : s .n ≤ 1024
-  pub m-least : 1 ≤ s .m
-  pub m-most : s .m ≤ 64
-  pub l-least : 2 ≤ s .l
-  pub l-most : s .l ≤ 1024
-  pub cap-least : 3 ≤ s .cap
-  pub cap-most : s .cap ≤ 255
 
 -- what the rows of a heap do not say: how long its lists are, and that its log is empty
 pub record Plain (s : Sizes) (h : Heap) : Type 0 where

@@ -1,4 +1,4 @@
--- Figures are hidden: two runs from fresh heaps, equal but for the figures put, agree in all but the figures themselves, given what a batch of a run does (the section's parameters). Assumes nothing.
+-- Figures are hidden: two runs from fresh heaps, equal but for the figures put, agree in all but the figures themselves. Assumes nothing.
 use Prim.Native.Nat.{ℕ, _*_}
 use mathlib.Core.Path.{_≡_, refl, ap}
 use mathlib.Core.Bool.{Bool, true, false, cond}
@@ -20,39 +20,11 @@ use Rattle.rules.specs.Run.{ours, Batch, runFrom, runOf, AlikeBatches, A
 use Rattle.rules.proofs.Invariant.{Ended}
 use Rattle.rules.proofs.Erase.{erase, SameCalls, batch-blind}
 use Rattle.rules.proofs.Alike.{rows-alike, head-alike, freed-alike, same-length, SameDecoded, decoded-alike, alike-answers, answered-alike}
-use Rattle.rules.proofs.Runs.{batchFrom}
+use Rattle.rules.proofs.Fine.{Fine}
+use Rattle.rules.proofs.Fresh.{fresh-ended}
+use Rattle.rules.proofs.Runs.{batchFrom, byRoom, leftBy, left, left-ended, one-batch, fresh-is, fine-fresh}
 
 -- ---- one batch
-
--- by the answers row's length: a batch worked, or refused with 3
-abbrev byRoom : Sizes → Heap → List Call → List ℤ → Bool → Batched
-byRoom s h cs row q =
-    let b = batch s cs h in
-    cond q
-    (leavesWith (outcome 0 (headOf s (b .heap)) (b .heap .freed)) (rowsOf s (b .heap)) (answered (b .answers) row))
-    (leavesWith (outcome 3 (headOf s h) 0) (rowsOf s h) row)
-
--- the heap that it leaves
-abbrev leftBy : Sizes → Heap → List Call → Bool → Heap
-leftBy s h cs q = cond q (batch s cs h .heap) h
-
-abbrev left : Sizes → Heap → Option (List Call) → List ℤ → Heap
-left s h none row = h
-left s h (some cs) row = leftBy s h cs (leb (2 * length cs) (length row))
-
--- head and rows are those of a heap
-record LeftAs (s : Sizes) (h : Heap) (o : Batched) : Type 0 where
-  pub head : o .outcome .head ≡ headOf s h
-  pub rows : o .rows ≡ rowsOf s h
-
-left-as : (s : Sizes) (h : Heap) (o : Option (List Call)) (row : List ℤ) → LeftAs s (left s h o row) (batchFrom s h o row)
-unfolding batchFrom
-left-as s h none row = record { head = refl; rows = refl }
-left-as s h (some cs) row = go (leb (2 * length cs) (length row))
-  where
-    go : (q : Bool) → LeftAs s (leftBy s h cs q) (byRoom s h cs row q)
-    go true = record { head = refl; rows = refl }
-    go false = record { head = refl; rows = refl }
 
 -- two batches and the heaps that they leave agree but for the figures
 record Twins (ws : List ℤ) (h k : Heap) (o p : Batched) : Type 0 where
@@ -104,68 +76,27 @@ twins s h k ws row (some cs) (some ds) i d e = rw (← same-length cs ds d) (go 
 
 -- ---- runs
 
--- an accepted fresh heap
-pub fresh-is : (n m l cap : ℕ) (r : Lent) → freshOf n m l cap r .outcome .status ≡ 0
-    → freshOf n m l cap r ≡ leaves (outcome 0 (headOf (sizesOf (freshHead n m l cap)) (fresh (sizesOf (freshHead n m l cap)))) 0) (rowsOf (sizesOf (freshHead n m l cap)) (fresh (sizesOf (freshHead n m l cap))))
-unfolding freshOf headOf fresh
-fresh-is n m l cap r e = go (isSized (freshHead n m l cap) r) e
-  where
-    s : Sizes
-    s = sizesOf (freshHead n m l cap)
+runs-alike : (s : Sizes) → Fine s → (h k : Heap) → Ended s h → Ended s k → erase h ≡ erase k → (bs cs : List Batch) → AlikeBatches bs cs
+    → AlikeRuns bs (runFrom ours (headOf s h) (rowsOf s h) bs) (runFrom ours (headOf s k) (rowsOf s k) cs)
+runs-alike s f h k d e t [] [] a = unfold runFrom in tt
+runs-alike s f h k d e t [] (c ∷ cs) a = absurd a
+runs-alike s f h k d e t (b ∷ bs) [] a = absurd a
+runs-alike s f h k d e t (b ∷ bs) (c ∷ cs) a =
+    let o = callsIn (s .m) (b .calls) in
+    let p = callsIn (s .m) (c .calls) in
+    let w = twins s h k (b .calls) (b .answers) o p refl (decoded-alike (s .m) (b .calls) (c .calls) (a .0)) t in
+    let d′ = left-ended s f h d (b .calls) (b .answers) o refl in
+    let e′ = left-ended s f k e (c .calls) (b .answers) p refl in
+    rw (one-batch s f h d b bs, one-batch s f k e c cs, ← a .1)
+    (w .batches, runs-alike s f (left s h o (b .answers)) (left s k p (b .answers)) d′ e′ (w .heaps) bs cs (a .2))
 
-    byTest : Bool → After
-    byTest q = cond q (leaves (outcome 0 (freshHead n m l cap) 0) (rowsOf s (fresh s))) (leaves (outcome 1 zeroHead 0) r)
-
-    go : (q : Bool) → byTest q .outcome .status ≡ 0 → byTest q ≡ leaves (outcome 0 (headOf s (fresh s)) 0) (rowsOf s (fresh s))
-    go true e = refl
-    go false e = absurd (omega arith)
-
-module _
-    (Fine : Sizes → Type 0)
-    (inRun : (s : Sizes) → Fine s → (h : Heap) → Ended s h → (ws row : List ℤ) → batchOf (headOf s h) (rowsOf s h) ws row ≡ batchFrom s h (callsIn (s .m) ws) row)
-    (inRun-ended : (s : Sizes) → Fine s → (h : Heap) → Ended s h → (ws : List ℤ) (cs : List Call) → callsIn (s .m) ws ≡ some cs → Ended s (batch s cs h .heap))
-    (fresh-ended : (s : Sizes) → Fine s → Ended s (fresh s))
-    (fine-fresh : (n m l cap : ℕ) (r : Lent) → freshOf n m l cap r .outcome .status ≡ 0 → Fine (sizesOf (freshHead n m l cap)))
-  where
-    left-ended : (s : Sizes) → Fine s → (h : Heap) → Ended s h → (ws row : List ℤ) (o : Option (List Call)) → callsIn (s .m) ws ≡ o → Ended s (left s h o row)
-    left-ended s f h e ws row none i = e
-    left-ended s f h e ws row (some cs) i = go (leb (2 * length cs) (length row))
-      where
-        go : (q : Bool) → Ended s (leftBy s h cs q)
-        go true = inRun-ended s f h e ws cs i
-        go false = e
-
-    one-batch : (s : Sizes) → Fine s → (h : Heap) → Ended s h → (b : Batch) (bs : List Batch)
-        → let o = callsIn (s .m) (b .calls) in
-        runFrom ours (headOf s h) (rowsOf s h) (b ∷ bs)
-        ≡ batchFrom s h o (b .answers) ∷ runFrom ours (headOf s (left s h o (b .answers))) (rowsOf s (left s h o (b .answers))) bs
-    unfolding runFrom
-    one-batch s f h e b bs =
-        let o = callsIn (s .m) (b .calls) in
-        let a = left-as s h o (b .answers) in
-        rw (inRun s f h e (b .calls) (b .answers), a .head, a .rows)
-
-    runs-alike : (s : Sizes) → Fine s → (h k : Heap) → Ended s h → Ended s k → erase h ≡ erase k → (bs cs : List Batch) → AlikeBatches bs cs
-        → AlikeRuns bs (runFrom ours (headOf s h) (rowsOf s h) bs) (runFrom ours (headOf s k) (rowsOf s k) cs)
-    runs-alike s f h k d e t [] [] a = unfold runFrom in tt
-    runs-alike s f h k d e t [] (c ∷ cs) a = absurd a
-    runs-alike s f h k d e t (b ∷ bs) [] a = absurd a
-    runs-alike s f h k d e t (b ∷ bs) (c ∷ cs) a =
-        let o = callsIn (s .m) (b .calls) in
-        let p = callsIn (s .m) (c .calls) in
-        let w = twins s h k (b .calls) (b .answers) o p refl (decoded-alike (s .m) (b .calls) (c .calls) (a .0)) t in
-        let d′ = left-ended s f h d (b .calls) (b .answers) o refl in
-        let e′ = left-ended s f k e (c .calls) (b .answers) p refl in
-        rw (one-batch s f h d b bs, one-batch s f k e c cs, ← a .1)
-        (w .batches, runs-alike s f (left s h o (b .answers)) (left s k p (b .answers)) d′ e′ (w .heaps) bs cs (a .2))
-
-    pub figures-hidden : (n m l cap : ℕ) (r q : Lent) (bs cs : List Batch)
-        → freshOf n m l cap r .outcome .status ≡ 0 → freshOf n m l cap q .outcome .status ≡ 0 → AlikeBatches bs cs
-        → AlikeRows (freshOf n m l cap r .rows) (freshOf n m l cap q .rows) × AlikeRuns bs (runOf ours n m l cap r bs) (runOf ours n m l cap q cs)
-    unfolding runOf
-    figures-hidden n m l cap r q bs cs u v a =
-        let s = sizesOf (freshHead n m l cap) in
-        let f = fine-fresh n m l cap r u in
-        let d = fresh-ended s f in
-        rw (fresh-is n m l cap r u, fresh-is n m l cap q v)
-        (rows-alike s (fresh s) (fresh s) refl, runs-alike s f (fresh s) (fresh s) d d refl bs cs a)
+pub figures-hidden : (n m l cap : ℕ) (r q : Lent) (bs cs : List Batch)
+    → freshOf n m l cap r .outcome .status ≡ 0 → freshOf n m l cap q .outcome .status ≡ 0 → AlikeBatches bs cs
+    → AlikeRows (freshOf n m l cap r .rows) (freshOf n m l cap q .rows) × AlikeRuns bs (runOf ours n m l cap r bs) (runOf ours n m l cap q cs)
+unfolding runOf
+figures-hidden n m l cap r q bs cs u v a =
+    let s = sizesOf (freshHead n m l cap) in
+    let f = fine-fresh n m l cap r u in
+    let d = fresh-ended s in
+    rw (fresh-is n m l cap r u, fresh-is n m l cap q v)
+    (rows-alike s (fresh s) (fresh s) refl, runs-alike s f (fresh s) (fresh s) d d refl bs cs a)
