@@ -22,3 +22,4 @@ pub mod Runs
 pub mod Figures
 pub mod Positions
 pub mod Bridge
+pub mod Entry
