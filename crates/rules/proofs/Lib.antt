@@ -8,3 +8,4 @@ pub mod FreeList
 pub mod Calls
 pub mod Step
 pub mod Fresh
+pub mod Facts

@@ -419,3 +419,26 @@ module _ (n cap : ℕ) (cap3 : 3 ≤ cap) (hs : List (Option ℕ)) where
       let at : (f : ℕ) → f < 2 → Small n (drops (field (h .shape .fields) a f)) = λ f i. drops-small n cap (h .shape .fields) hs (h .tables) g a f i l in
       replay-kept n cap cap3 (drops (field (h .shape .fields) a 0) ++ drops (field (h .shape .fields) a 1)) (leaveZct a (h .tables)) (leaveZct-kept n cap cap3 (h .tables) p a)
       (small-append n (drops (field (h .shape .fields) a 0)) (drops (field (h .shape .fields) a 1)) (at 0 (omega arith)) (at 1 (omega arith))))
+
+  -- a cell that is freed was taken at one of the turns
+  pub taken-when : (h : Heap) → G h → (a : ℕ) → live (h .shape .fields) a ≡ true → (k : ℕ) → live (reclaim cap hs k h .shape .fields) a ≡ false
+      → (j : ℕ) × ((j < k) × (pick hs (reclaim cap hs j h .tables .zct) ≡ some a))
+  unfolding reclaim
+  taken-when h g a l zero d = absurd (true≢false (sym l ∙ d))
+  taken-when h g a l (suc k) d = go (live (R .shape .fields) a) refl (taken-when h g a l k)
+    where
+      R : Heap
+      R = reclaim cap hs k h
+
+      same : (b : ℕ) (q : Bool) → pick hs (R .tables .zct) ≡ some b → eqb a b ≡ q → live (R .shape .fields) a ≡ true → cond q false (live (R .shape .fields) a) ≡ false → pick hs (R .tables .zct) ≡ some a
+      same b true e f l d = let x = eqb-true a b f in cc
+      same b false e f l d = absurd (true≢false (sym l ∙ d))
+
+      turn : (o : Option ℕ) → pick hs (R .tables .zct) ≡ o → live (R .shape .fields) a ≡ true → live (onPick o R (λ b. freeCell cap b R) .shape .fields) a ≡ false → pick hs (R .tables .zct) ≡ some a
+      turn none e l d = absurd (true≢false (sym l ∙ d))
+      turn (some b) e l d = same b (eqb a b) e refl l (sym (freeCell-lives R (reclaim-still-good k h g) b e a) ∙ d)
+
+      go : (q : Bool) → live (R .shape .fields) a ≡ q → (live (R .shape .fields) a ≡ false → (j : ℕ) × ((j < k) × (pick hs (reclaim cap hs j h .tables .zct) ≡ some a)))
+          → (j : ℕ) × ((j < suc k) × (pick hs (reclaim cap hs j h .tables .zct) ≡ some a))
+      go false e ih = let r = ih e in (r .0, (let x = r .1 .0 in omega arith, r .1 .1))
+      go true e ih = (k, (omega arith, turn (pick hs (R .tables .zct)) refl e (ap (λ x. live (x .shape .fields) a) (sym (reclaim-last cap hs k h)) ∙ d)))
