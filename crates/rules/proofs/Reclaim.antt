@@ -17,7 +17,7 @@ use Rattle.rules.specs.Rules.{Tables, Transaction, apply, replay, leaveZ
 use Rattle.rules.specs.Settle.{Heap, drops, holds, pick, onPick, place, field, store, freeCell, reclaim}
 use Rattle.rules.specs.Rows.{Kept}
 use Rattle.rules.proofs.Invariant.{hit, refs, used, live, view, count, okOf, Counted, Good, Done, Fitting, Small}
-use Rattle.rules.proofs.Tables.{eqb-self, remove-own, remove-other}
+use Rattle.rules.proofs.Tables.{eqb-self, or-right, remove-own, remove-other}
 use Rattle.rules.proofs.Sorted.{leaveZct-kept, replay-kept, small-append}
 use Rattle.rules.proofs.Exact.{refs-set, drop-counted}
 
@@ -29,10 +29,6 @@ pick-some hs (x ∷ z) a e = go (holds x hs) refl e (pick-some hs z a)
   where
     go : (p : Bool) → holds x hs ≡ p → cond p (pick hs z) (some x) ≡ some a → (pick hs z ≡ some a → (has a z ≡ true) × (holds a hs ≡ false)) → (has a (x ∷ z) ≡ true) × (holds a hs ≡ false)
     go true d e h = (rw (h e .0) (or-right (eqb a x)), h e .1)
-      where
-        or-right : (p : Bool) → (p || true) ≡ true
-        or-right true = refl
-        or-right false = refl
     go false d e h = let f : x ≡ a = cc in (rw (eq-eqb a x (sym f)), rw f at d)
 
 pub pick-none : (hs : List (Option ℕ)) (z : List ℕ) → pick hs z ≡ none → (a : ℕ) → has a z ≡ true → holds a hs ≡ true
@@ -442,3 +438,14 @@ module _ (n cap : ℕ) (cap3 : 3 ≤ cap) (hs : List (Option ℕ)) where
           → (j : ℕ) × ((j < suc k) × (pick hs (reclaim cap hs j h .tables .zct) ≡ some a))
       go false e ih = let r = ih e in (r .0, (let x = r .1 .0 in omega arith, r .1 .1))
       go true e ih = (k, (omega arith, turn (pick hs (R .tables .zct)) refl e (ap (λ x. live (x .shape .fields) a) (sym (reclaim-last cap hs k h)) ∙ d)))
+
+  -- reclaiming takes no cell into use
+  pub reclaim-live : (k : ℕ) (h : Heap) → G h → (b : ℕ) → live (reclaim cap hs k h .shape .fields) b ≡ true → live (h .shape .fields) b ≡ true
+  reclaim-live k h g =
+      reclaim-keeps (λ h′. (b : ℕ) → live (h′ .shape .fields) b ≡ true → live (h .shape .fields) b ≡ true)
+      (λ j a g e p b l. p b (was (eqb b a) (sym (freeCell-lives j g a e b) ∙ l)))
+      k h g (λ b l. l)
+    where
+      was : (q : Bool) {x : Bool} → cond q false x ≡ true → x ≡ true
+      was true e = absurd (false≢true e)
+      was false e = e
