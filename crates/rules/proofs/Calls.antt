@@ -21,6 +21,7 @@ use Rattle.rules.specs.Rules.{Tables, Transaction, replay}
 use Rattle.rules.specs.Settle.{Shape, drops, holds, field, store}
 use Rattle.rules.specs.Call.{var, at, isHeld, isCell, want, orElse, check, makes, logs, write, hold, toCell, target, act, isBelow, isNought, isSigned32, given, number, callOf, andThen, callsOf, callsIn}
 use Rattle.rules.proofs.Invariant.{hit, refs, used, live, Counted, Good, Fitting, Small}
+use Rattle.rules.proofs.Tables.{or-right}
 use Rattle.rules.proofs.Exact.{gains, drop-counted, gain-counted}
 use Rattle.rules.proofs.Sorted.{small-append}
 use Rattle.rules.proofs.Reclaim.{live-in, live-below, place-in, place-in-1, live-store-0, live-store-1, refs-store, length-store, replay-append, cell-live, drops-small, lives, lives-store}
@@ -49,10 +50,6 @@ pub record SizesOk (s : Sizes) : Type 0 where
   pub cap-least : 3 ≤ s .cap
   pub l-least : 2 ≤ s .l
   pub n-least : 1 ≤ s .n
-
-pub or-right : (p : Bool) → (p || true) ≡ true
-or-right true = refl
-or-right false = refl
 
 -- ---- variables
 

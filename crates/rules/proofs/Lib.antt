@@ -23,3 +23,4 @@ pub mod Figures
 pub mod Positions
 pub mod Bridge
 pub mod Entry
+pub mod Facts

@@ -13,7 +13,7 @@ use Rattle.rules.proofs.Invariant.{View, view, countOf, countV, count, 
 pub eqb-self : (a : ℕ) → eqb a a ≡ true
 eqb-self a = eq-eqb a a refl
 
-or-right : (p : Bool) → (p || true) ≡ true
+pub or-right : (p : Bool) → (p || true) ≡ true
 or-right true = refl
 or-right false = refl
 
