@@ -24,3 +24,4 @@ pub mod Positions
 pub mod Bridge
 pub mod Entry
 pub mod Facts
+pub mod Demand2
