@@ -4,3 +4,11 @@ pub mod Tests
 pub mod Worthless
 pub mod Demand1
 pub mod Worked
+pub mod Tables
+pub mod Exact
+pub mod Sorted
+pub mod Reclaim
+pub mod FreeList
+pub mod Calls
+pub mod Step
+pub mod Fresh
