@@ -12,3 +12,4 @@ pub mod FreeList
 pub mod Calls
 pub mod Step
 pub mod Fresh
+pub mod Sim
