@@ -13,3 +13,4 @@ pub mod Calls
 pub mod Step
 pub mod Fresh
 pub mod Sim
+pub mod EndlessRun
