@@ -13,4 +13,6 @@ pub mod Calls
 pub mod Step
 pub mod Fresh
 pub mod Sim
+pub mod Runs
 pub mod EndlessRun
+pub mod AsEndless
