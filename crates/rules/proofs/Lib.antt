@@ -25,3 +25,7 @@ pub mod Bridge
 pub mod Entry
 pub mod Facts
 pub mod Demand2
+pub mod Sim
+pub mod Runs
+pub mod EndlessRun
+pub mod AsEndless
