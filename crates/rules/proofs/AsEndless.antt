@@ -17,56 +17,53 @@ use Rattle.rules.specs.Refusals.{Batched, outcome, leavesWith, answered,
 use Rattle.rules.specs.Endless.{Endless, endless}
 use Rattle.rules.specs.Run.{ours, Batch, runFrom, runOf, Said, saidBy, but14, saidIn, AsEndless}
 use Rattle.rules.proofs.Invariant.{Ended}
-use Rattle.rules.proofs.Calls.{SizesOk, calls-in-fit}
+use Rattle.rules.proofs.Calls.{calls-in-fit}
 use Rattle.rules.proofs.Step.{batch-ended}
 use Rattle.rules.proofs.Fresh.{fresh-ended}
 use Rattle.rules.proofs.Demand1.{fresh-sized, fresh-accepted}
 use Rattle.rules.proofs.Sim.{Sim, fresh-sim}
 use Rattle.rules.proofs.EndlessRun.{batch-as-endless}
-use Rattle.rules.proofs.Runs.{batchFrom}
+use Rattle.rules.proofs.Fine.{Fine}
+use Rattle.rules.proofs.Runs.{batchFrom, in-run, fine-fresh}
 
 -- what one batch and those after it say
 abbrev saidFrom : ℕ → Option (List Call) → Batched → List Batch → List Said
 saidFrom m d o bs = cond (eqb (o .outcome .status) 0) (saidBy d (o .answers)) [] ++ saidIn m bs (runFrom ours (o .outcome .head) (o .rows) bs)
 
--- what is known of a batch in a run
-module _ (Fine : Sizes → Type 0) (sizes-ok : (s : Sizes) → Fine s → SizesOk s)
-    (inRun : (s : Sizes) → Fine s → (h : Heap) → Ended s h → (ws row : List ℤ) → batchOf (headOf s h) (rowsOf s h) ws row ≡ batchFrom s h (callsIn (s .m) ws) row)
-    (fine-fresh : (n m l cap : ℕ) (r : Lent) → freshOf n m l cap r .outcome .status ≡ 0 → Fine (sizesOf (freshHead n m l cap))) where
-  run-as-endless : (s : Sizes) → Fine s → (bs : List Batch) (h : Heap) → Ended s h → (ρ : ℕ → ℕ) (e : Endless) → Sim ρ (h .shape) e
-      → AsEndless (but14 (saidIn (s .m) bs (runFrom ours (headOf s h) (rowsOf s h) bs))) e
-  unfolding saidIn runFrom batchFrom
-  run-as-endless s fine [] h g ρ e R = tt
-  run-as-endless s fine (b ∷ bs) h g ρ e R =
-      rw (inRun s fine h g (b .calls) (b .answers)) (go (callsIn (s .m) (b .calls)) refl (run-as-endless s fine bs))
-    where
-      Next : Type 0
-      Next = (h : Heap) → Ended s h → (ρ : ℕ → ℕ) (e : Endless) → Sim ρ (h .shape) e → AsEndless (but14 (saidIn (s .m) bs (runFrom ours (headOf s h) (rowsOf s h) bs))) e
+run-as-endless : (s : Sizes) → Fine s → (bs : List Batch) (h : Heap) → Ended s h → (ρ : ℕ → ℕ) (e : Endless) → Sim ρ (h .shape) e
+    → AsEndless (but14 (saidIn (s .m) bs (runFrom ours (headOf s h) (rowsOf s h) bs))) e
+unfolding saidIn runFrom batchFrom
+run-as-endless s fine [] h g ρ e R = tt
+run-as-endless s fine (b ∷ bs) h g ρ e R =
+    rw (in-run s fine h g (b .calls) (b .answers)) (go (callsIn (s .m) (b .calls)) refl (run-as-endless s fine bs))
+  where
+    Next : Type 0
+    Next = (h : Heap) → Ended s h → (ρ : ℕ → ℕ) (e : Endless) → Sim ρ (h .shape) e → AsEndless (but14 (saidIn (s .m) bs (runFrom ours (headOf s h) (rowsOf s h) bs))) e
 
-      go : (d : Option (List Call)) → callsIn (s .m) (b .calls) ≡ d → Next → AsEndless (but14 (saidFrom (s .m) d (batchFrom s h d (b .answers)) bs)) e
-      go none d ih = ih h g ρ e R
-      go (some cs) d ih = at (leb (2 * length cs) (length (b .answers)))
-        where
-          b′ : Heap
-          b′ = batch s cs h .heap
+    go : (d : Option (List Call)) → callsIn (s .m) (b .calls) ≡ d → Next → AsEndless (but14 (saidFrom (s .m) d (batchFrom s h d (b .answers)) bs)) e
+    go none d ih = ih h g ρ e R
+    go (some cs) d ih = at (leb (2 * length cs) (length (b .answers)))
+      where
+        b′ : Heap
+        b′ = batch s cs h .heap
 
-          worked : Batched
-          worked = leavesWith (outcome 0 (headOf s b′) (b′ .freed)) (rowsOf s b′) (answered (batch s cs h .answers) (b .answers))
+        worked : Batched
+        worked = leavesWith (outcome 0 (headOf s b′) (b′ .freed)) (rowsOf s b′) (answered (batch s cs h .answers) (b .answers))
 
-          refused : Batched
-          refused = leavesWith (outcome 3 (headOf s h) 0) (rowsOf s h) (b .answers)
+        refused : Batched
+        refused = leavesWith (outcome 3 (headOf s h) 0) (rowsOf s h) (b .answers)
 
-          at : (q : Bool) → AsEndless (but14 (saidFrom (s .m) (some cs) (cond q worked refused) bs)) e
-          at true =
-              let f = calls-in-fit s (b .calls) cs d in
-              batch-as-endless s (sizes-ok s fine) cs h (g .inv) f (b .answers) (saidIn (s .m) bs (runFrom ours (headOf s b′) (rowsOf s b′) bs))
-              (ih b′ (batch-ended s (sizes-ok s fine) cs h (g .inv) f)) ρ e R
-          at false = ih h g ρ e R
+        at : (q : Bool) → AsEndless (but14 (saidFrom (s .m) (some cs) (cond q worked refused) bs)) e
+        at true =
+            let f = calls-in-fit s (b .calls) cs d in
+            batch-as-endless s fine cs h (g .inv) f (b .answers) (saidIn (s .m) bs (runFrom ours (headOf s b′) (rowsOf s b′) bs))
+            (ih b′ (batch-ended s fine cs h (g .inv) f)) ρ e R
+        at false = ih h g ρ e R
 
-  pub as-endless : (n m l cap : ℕ) (r : Lent) (bs : List Batch) → freshOf n m l cap r .outcome .status ≡ 0
-      → AsEndless (but14 (saidIn m bs (runOf ours n m l cap r bs))) (endless m)
-  unfolding runOf headOf fresh
-  as-endless n m l cap r bs z =
-      let s = sizesOf (freshHead n m l cap) in
-      rw (fresh-accepted n m l cap r (fresh-sized n m l cap r z))
-      (run-as-endless s (fine-fresh n m l cap r z) bs (fresh s) (fresh-ended s) (λ a. a) (endless m) (fresh-sim s))
+pub as-endless : (n m l cap : ℕ) (r : Lent) (bs : List Batch) → freshOf n m l cap r .outcome .status ≡ 0
+    → AsEndless (but14 (saidIn m bs (runOf ours n m l cap r bs))) (endless m)
+unfolding runOf headOf fresh
+as-endless n m l cap r bs z =
+    let s = sizesOf (freshHead n m l cap) in
+    rw (fresh-accepted n m l cap r (fresh-sized n m l cap r z))
+    (run-as-endless s (fine-fresh n m l cap r z) bs (fresh s) (fresh-ended s) (λ a. a) (endless m) (fresh-sim s))

@@ -20,6 +20,7 @@ use Rattle.rules.specs.Field.{Signed32}
 use Rattle.rules.specs.Rules.{Tables, Transaction, replay}
 use Rattle.rules.specs.Settle.{Shape, drops, holds, field, store}
 use Rattle.rules.specs.Call.{var, at, isHeld, isCell, want, orElse, check, makes, logs, write, hold, toCell, target, act, isBelow, isNought, isSigned32, given, number, callOf, andThen, callsOf, callsIn}
+use Rattle.rules.proofs.Fine.{Fine}
 use Rattle.rules.proofs.Invariant.{hit, refs, used, live, Counted, Good, Fitting, Small}
 use Rattle.rules.proofs.Tables.{or-right}
 use Rattle.rules.proofs.Exact.{gains, drop-counted, gain-counted}
@@ -44,12 +45,6 @@ Fits s Settle = Unit {0}
 abbrev pub AllFit : Sizes → List Call → Type 0
 AllFit s [] = Unit {0}
 AllFit s (c ∷ cs) = (Fits s c) × (AllFit s cs)
-
--- the limits that the laws lean on
-pub record SizesOk (s : Sizes) : Type 0 where
-  pub cap-least : 3 ≤ s .cap
-  pub l-least : 2 ≤ s .l
-  pub n-least : 1 ≤ s .n
 
 -- ---- variables
 
@@ -149,7 +144,7 @@ act-variables Settle sh = refl
 
 -- ---- a shape that agrees with tables
 
-module _ (s : Sizes) (ok : SizesOk s) (sh : Shape) (t : Tables) (g : Good (s .n) (s .cap) (sh .fields) (sh .variables) t) where
+module _ (s : Sizes) (ok : Fine s) (sh : Shape) (t : Tables) (g : Good (s .n) (s .cap) (sh .fields) (sh .variables) t) where
   abbrev Stays : Shape → List Transaction → Type 0
   Stays sh′ l = Good (s .n) (s .cap) (sh′ .fields) (sh′ .variables) (replay (s .cap) l t)
 

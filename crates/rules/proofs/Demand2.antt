@@ -33,7 +33,6 @@ use Rattle.rules.proofs.Calls.{AllFit, calls-in-fit}
 use Rattle.rules.proofs.Step.{settled-done, step-inv}
 use Rattle.rules.proofs.Facts as facts
 use Rattle.rules.proofs.Roundtrip.{rows-of-heap}
-use Rattle.rules.proofs.Runs.{sizes-ok}
 use Rattle.rules.proofs.Entry.{entry-ended, exit-ended, exit-sized, exit-sound}
 use Rattle.rules.proofs.Demand1.{Taken, taken, same-calls, answers-long, audit-0, audit-4, demand-1}
 
@@ -113,7 +112,7 @@ module _ {h : Head} {r : Lent} (Z : Sized h r) (S : Sound h r) (cs : List Call) 
   count-freed row =
       let a = rw kinds-are at (free-in (entry-ended Z S .inv)) in
       let b = free-in (exit-ended Z S cs F .inv) in
-      let c = facts.count-is-freed (sizesOf h) (sizes-ok (fine-of (Z .limits))) cs (heapOf h r) (entry-ended Z S .inv) F in
+      let c = facts.count-is-freed (sizesOf h) (fine-of (Z .limits)) cs (heapOf h r) (entry-ended Z S .inv) F in
       let k : Heap = record { shape = heapOf h r .shape; first = heapOf h r .first; tables = heapOf h r .tables; log = heapOf h r .log; freed = 0 } in
       let as′ = calls (sizesOf h) cs k .answers in
       let d = handed-in cs as′ (drop (2 * length as′) row) (answers-long (sizesOf h) cs k) in
@@ -160,7 +159,7 @@ module _ {h : Head} {r : Lent} (Z : Sized h r) (S : Sound h r) (v : ℕ) (k : v 
   fourteen : (getD (batchOf h r (newWords v) row .answers) 0 (negsuc 0) ≡ pos 14 → h .free ≡ h .n) × (h .free ≡ h .n → getD (batchOf h r (newWords v) row .answers) 0 (negsuc 0) ≡ pos 14)
   unfolding noneFree
   fourteen =
-      let ok = sizes-ok (fine-of (Z .limits)) in
+      let ok = fine-of (Z .limits) in
       let e = ap (λ (o : Batched). getD (o .answers) 0 (negsuc 0)) new-left ∙ new-status in
       let f = facts.fourteen-full (sizesOf h) ok v (heapOf h r) (open-heap .inv) in
       let a = ap (noneFree (sizesOf h)) (facts.settled-again (sizesOf h) ok (heapOf h r) open-heap) in (
@@ -187,7 +186,7 @@ module _ {h : Head} {r : Lent} (Z : Sized h r) (S : Sound h r) (v : ℕ) (k : v 
     new-holds : getD (batch (sizesOf h) (New v ∷ []) (heapOf h r) .heap .shape .variables) v none ≡ some (h .free)
     unfolding takeCell hold heapOf
     new-holds =
-        let ok = sizes-ok (fine-of (Z .limits)) in
+        let ok = fine-of (Z .limits) in
         let I : Inv (sizesOf h) (takeCell v (heapOf h r)) = subst (λ (o : Stepped). Inv (sizesOf h) (o .heap)) new-taken (step-inv (sizesOf h) ok (New v) (heapOf h r) (open-heap .inv) (fit .0)) in
         let e = settled-done (sizesOf h) ok (takeCell v (heapOf h r)) I .1 .1 in
         let long : v < length (heapOf h r .shape .variables) = let g = open-heap .inv .variables-long in omega arith in

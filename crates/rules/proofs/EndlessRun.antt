@@ -14,12 +14,13 @@ use Rattle.rules.specs.Step.{step, calls, batch}
 use Rattle.rules.specs.Refusals.{answerWords, answered}
 use Rattle.rules.specs.Endless.{Endless, endlessStep}
 use Rattle.rules.specs.Run.{Said, said, but14, AsEndless}
+use Rattle.rules.proofs.Fine.{Fine}
 use Rattle.rules.proofs.Invariant.{Inv}
-use Rattle.rules.proofs.Calls.{SizesOk, AllFit}
+use Rattle.rules.proofs.Calls.{AllFit}
 use Rattle.rules.proofs.Step.{step-inv, counted-from-0}
 use Rattle.rules.proofs.Sim.{Sim, sim-settled, step-agrees, step-14}
 
-module _ (s : Sizes) (ok : SizesOk s) where
+module _ (s : Sizes) (ok : Fine s) where
   -- what is said after the calls is as on an endless heap that agrees with the heap that they left
   abbrev Then : Heap → List Said → Type 0
   Then h more = (ρ : ℕ → ℕ) (e : Endless) → Sim ρ (h .shape) e → AsEndless (but14 more) e

@@ -21,7 +21,6 @@ use Rattle.rules.proofs.Calls.{AllFit, calls-in-fit}
 use Rattle.rules.proofs.Step.{batch-ended}
 use Rattle.rules.proofs.Roundtrip.{sized-of-ended, rows-of-heap, head-of-heap}
 use Rattle.rules.proofs.Bridge.{Plain, ended-sound, sound-ended}
-use Rattle.rules.proofs.Runs.{sizes-ok}
 use Rattle.rules.proofs.Demand1.{Taken, taken}
 
 fields-long : (ks : List ℕ) (vs : List ℤ) → length ks ≡ length vs → length (fieldsOf ks vs) ≡ length ks
@@ -68,7 +67,7 @@ module _ {h : Head} {r : Lent} (Z : Sized h r) (S : Sound h r) where
 
   module _ (cs : List Call) (F : AllFit (sizesOf h) cs) where
     pub exit-ended : Ended (sizesOf h) (batch (sizesOf h) cs (heapOf h r) .heap)
-    exit-ended = batch-ended (sizesOf h) (sizes-ok (fine-of (Z .limits))) cs (heapOf h r) (entry-ended .inv) F
+    exit-ended = batch-ended (sizesOf h) (fine-of (Z .limits)) cs (heapOf h r) (entry-ended .inv) F
 
     pub exit-sized : (row : List ℤ) → Sized (accepted h r cs row .outcome .head) (accepted h r cs row .rows)
     unfolding accepted

@@ -20,12 +20,13 @@ use Rattle.rules.specs.Rules.{replay}
 use Rattle.rules.specs.Settle.{Shape, Heap, holds, pick, place, field, reclaim, replayed, settledBy, settled}
 use Rattle.rules.specs.Call.{Answer, answer, var, want, orElse, check, logs, hold}
 use Rattle.rules.specs.Step.{Stepped, done, refused, settledIf, full, noneFree, takeCell, doNew, doSettle, doCall, room, run, step, calls, batch}
+use Rattle.rules.proofs.Fine.{Fine}
 use Rattle.rules.proofs.Invariant.{refs, live, count, Inv, Ended}
 use Rattle.rules.proofs.Tables.{eqb-self}
 use Rattle.rules.proofs.Sorted.{pick-least, replay-kept}
 use Rattle.rules.proofs.Reclaim.{pick-some, pick-none, lives, lives-taken, reclaim-idle, reclaim-kept, reclaim-live, taken-when, live-store-0}
 use Rattle.rules.proofs.FreeList.{frees-none, field-same, field-across}
-use Rattle.rules.proofs.Calls.{Fits, AllFit, SizesOk, act-lives}
+use Rattle.rules.proofs.Calls.{Fits, AllFit, act-lives}
 use Rattle.rules.proofs.Step.{SameCheck, settledBy-good, settledBy-sum, settled-done, settled-inv, settledIf-inv, taken, room-check, step-inv, counted-from-0}
 
 -- ---- the turns of a settle
@@ -156,7 +157,7 @@ taken-freed v h = refl
 
 -- ---- over a heap with the invariant
 
-module _ (s : Sizes) (ok : SizesOk s) where
+module _ (s : Sizes) (ok : Fine s) where
   -- a settle of a settled heap changes nothing
   pub settled-again : (h : Heap) → Ended s h → settled s h ≡ h
   unfolding settled settledBy replayed replay

@@ -26,6 +26,6 @@ pub mod Entry
 pub mod Facts
 pub mod Demand2
 pub mod Sim
-pub mod Runs
 pub mod EndlessRun
 pub mod AsEndless
+pub mod Demands

@@ -21,14 +21,11 @@ use Rattle.rules.specs.Run.{ours, Batch, runFrom}
 use Rattle.rules.proofs.Invariant.{Inv, Ended}
 use Rattle.rules.proofs.Fine.{Fine, fine-of}
 use Rattle.rules.proofs.Tests.{true-sized, true-sound}
-use Rattle.rules.proofs.Calls.{SizesOk, AllFit, calls-in-fit}
+use Rattle.rules.proofs.Calls.{AllFit, calls-in-fit}
 use Rattle.rules.proofs.Step.{batch-ended}
 use Rattle.rules.proofs.Roundtrip.{sized-of-ended, batch-of-ended, rows-of-heap, head-of-heap}
 use Rattle.rules.proofs.Bridge.{Plain, ended-sound, sound-ended}
 use Rattle.rules.proofs.Demand1.{fresh-sized}
-
-pub sizes-ok : {s : Sizes} → Fine s → SizesOk s
-sizes-ok F = record { cap-least = F .cap-least; l-least = F .l-least; n-least = F .n-least }
 
 -- what a batch of these calls leaves: refused with 2 or 3, or worked
 unfoldable pub batchFrom : Sizes → Heap → Option (List Call) → List ℤ → Batched
@@ -48,7 +45,7 @@ in-run s F h E ws row = rw (true-sized (headOf s h) (rowsOf s h) (sized-of-ended
     go (some cs) = rw (true-sound (headOf s h) (rowsOf s h) (ended-sound s F h E), batch-of-ended cs E)
 
 pub in-run-ended : (s : Sizes) → Fine s → (h : Heap) → Ended s h → (ws : List ℤ) (cs : List Call) → callsIn (s .m) ws ≡ some cs → Ended s (batch s cs h .heap)
-in-run-ended s F h E ws cs e = batch-ended s (sizes-ok F) cs h (E .inv) (calls-in-fit s ws cs e)
+in-run-ended s F h E ws cs e = batch-ended s F cs h (E .inv) (calls-in-fit s ws cs e)
 
 -- the sizes of an accepted fresh call are fine
 pub fine-fresh : (n m l cap : ℕ) (r : Lent) → freshOf n m l cap r .outcome .status ≡ 0 → Fine (sizesOf (freshHead n m l cap))
