@@ -23,7 +23,7 @@ use Rattle.rules.specs.Sound.{Live, Mark, Word, Words, Variables, TableR
 use Rattle.rules.proofs.Fine.{Fine}
 use Rattle.rules.proofs.Invariant.{refs, live, view, countOf, okOf, Counted, Good, Frees, Fitting, Done, Ended}
 use Rattle.rules.proofs.Reclaim.{pick-some, pick-none}
-use Rattle.rules.proofs.Positions.{getD-any, has-at, at-has, not-has, all-at, at-all, up-at, at-up, count-at, at-count, not-counted, pad-at, pad-zero, refs-pointers, holds-held, holds-at, at-holds, kind-at, kind-nothing, inside, live-at, at-live, dead-at, chain-path, path-chain, off-path, on-chain, word-of, of-word, place-of, no-refs, some-refs}
+use Rattle.rules.proofs.Positions.{getD-any, has-at, at-has, not-has, all-at, at-all, up-at, at-up, count-at, at-count, not-counted, pad-at, pad-zero, refs-pointers, holds-held, holds-at, at-holds, kind-at, kind-nothing, inside, live-at, at-live, dead-at, chain-path, path-chain, off-path, on-chain, word-of, of-word, half, no-refs, some-refs}
 
 -- what the rows of a heap do not say: how long its lists are, and that its log is empty
 pub record Plain (s : Sizes) (h : Heap) : Type 0 where
@@ -272,20 +272,20 @@ module _ (s : Sizes) (f : Fine s) (h : Heap) (plain : Plain s h) (sound : Sound 
       go : (x : Field) → getD fs i Nothing ≡ x → Fitting x
       go Nothing e = tt
       go (Figure x) e =
-          let p = place-of i in
-          let q : field fs (p .0) (p .1) ≡ Figure x = rw (p .3) at e in
-          let c = inside (s .n) fs (plain .fields-long) (p .0) (p .1) (Figure x) (p .2) q (λ o. let w : _≡_ {A = ℕ} 0 1 = cc in omega arith) in
-          rw q at (word-here (p .0) (p .1) c (p .2))
+          let p = half i in
+          let q : field fs (p .cell) (p .part) ≡ Figure x = rw (p .is) at e in
+          let c = inside (s .n) fs (plain .fields-long) (p .cell) (p .part) (Figure x) (p .small) q (λ o. let w : _≡_ {A = ℕ} 0 1 = cc in omega arith) in
+          rw q at (word-here (p .cell) (p .part) c (p .small))
       go (Cell a) e = tt
       go (Free a) e = tt
 
   targets : (i b : ℕ) → getD fs i Nothing ≡ Cell b → live fs b ≡ true
   unfolding field place Word
   targets i b e =
-      let p = place-of i in
-      let q : field fs (p .0) (p .1) ≡ Cell b = rw (p .3) at e in
-      let c = inside (s .n) fs (plain .fields-long) (p .0) (p .1) (Cell b) (p .2) q (λ o. let w : _≡_ {A = ℕ} 0 1 = cc in omega arith) in
-      at-live (s .n) fs (plain .fields-long) b (rw q at (word-here (p .0) (p .1) c (p .2)))
+      let p = half i in
+      let q : field fs (p .cell) (p .part) ≡ Cell b = rw (p .is) at e in
+      let c = inside (s .n) fs (plain .fields-long) (p .cell) (p .part) (Cell b) (p .small) q (λ o. let w : _≡_ {A = ℕ} 0 1 = cc in omega arith) in
+      at-live (s .n) fs (plain .fields-long) b (rw q at (word-here (p .cell) (p .part) c (p .small)))
 
   unpointed : (b : ℕ) → live fs b ≡ false → refs fs b ≡ 0
   unpointed b l = no-refs fs b (λ i k e. absurd (true≢false (sym (targets i b e) ∙ l)))

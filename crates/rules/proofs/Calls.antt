@@ -2,7 +2,7 @@
 use Prim.Native.Nat.{ℕ, zero, suc, _<_, _≤_}
 use mathlib.Core.Path.{_≡_, refl, sym, ap, _∙_, subst}
 use mathlib.Core.Logic.{_⊎_, inl, inr}
-use mathlib.Core.Bool.{Bool, true, false, _&&_, _||_, cond, false≢true}
+use mathlib.Core.Bool.{Bool, true, false, _&&_, _||_, cond, false≢true, or-true}
 use mathlib.Core.Option.{Option, none, some}
 use mathlib.Core.List.{List, [], _∷_, _++_, append-nil}
 use native.Mathlib.Omega.{arith}
@@ -22,7 +22,6 @@ use Rattle.rules.specs.Settle.{Shape, drops, holds, field, store}
 use Rattle.rules.specs.Call.{var, at, isHeld, isCell, want, orElse, check, makes, logs, write, hold, toCell, target, act, isBelow, isNought, isSigned32, given, number, callOf, andThen, callsOf, callsIn}
 use Rattle.rules.proofs.Fine.{Fine}
 use Rattle.rules.proofs.Invariant.{hit, refs, used, live, Counted, Good, Fitting, Small}
-use Rattle.rules.proofs.Tables.{or-right}
 use Rattle.rules.proofs.Exact.{gains, drop-counted, gain-counted}
 use Rattle.rules.proofs.Sorted.{small-append}
 use Rattle.rules.proofs.Reclaim.{live-in, live-below, place-in, place-in-1, live-store-0, live-store-1, refs-store, length-store, replay-append, cell-live, drops-small, lives, lives-store}
@@ -54,13 +53,13 @@ holds-set (x ∷ vs) zero none b h = inr (skip x)
   where
     skip : (x : Option ℕ) → holds b (x ∷ vs) ≡ true
     skip none = h
-    skip (some c) = rw h (or-right (eqb b c))
+    skip (some c) = rw h (or-true (eqb b c))
 holds-set (x ∷ vs) zero (some a) b h = go (eqb b a) refl h x
   where
     go : (q : Bool) → eqb b a ≡ q → (q || holds b vs) ≡ true → (x : Option ℕ) → (some a ≡ some b) ⊎ (holds b (x ∷ vs) ≡ true)
     go true e h x = inl (ap some (sym (eqb-true b a e)))
     go false e h none = inr h
-    go false e h (some c) = inr (rw h (or-right (eqb b c)))
+    go false e h (some c) = inr (rw h (or-true (eqb b c)))
 holds-set (none ∷ vs) (suc v) o b h = holds-set vs v o b h
 holds-set (some c ∷ vs) (suc v) o b h = go (eqb b c) refl h (holds-set vs v o b)
   where
@@ -73,7 +72,7 @@ holds-var [] v a e = absurd (let w : _≡_ {A = ℕ} 0 1 = cc in omega arith)
 holds-var (none ∷ vs) zero a e = absurd (let w : _≡_ {A = ℕ} 0 1 = cc in omega arith)
 holds-var (some b ∷ vs) zero a e = let f : b ≡ a = cc in rw (eq-eqb a b (sym f))
 holds-var (none ∷ vs) (suc v) a e = holds-var vs v a e
-holds-var (some b ∷ vs) (suc v) a e = rw (holds-var vs v a e) (or-right (eqb a b))
+holds-var (some b ∷ vs) (suc v) a e = rw (holds-var vs v a e) (or-true (eqb a b))
 
 -- ---- what a check that finds nothing wrong says
 

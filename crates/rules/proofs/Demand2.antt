@@ -67,35 +67,10 @@ free-in {s} {h} I = free-lives (h .shape .fields) (s .n) (I .good .len) (I .plai
 
 -- ---- cells handed out, by the answers row
 
-handed-made : (c : Call) (k : ℕ) → cond (isNew c) (cond (isNought (pos k)) 1 0) 0 ≡ cond (eqb k 0) (facts.isNew c) 0
-handed-made c k = go (eqb k 0) c
-  where
-    go : (q : Bool) (c : Call) → cond (isNew c) (cond q 1 0) 0 ≡ cond q (facts.isNew c) 0
-    go true (New v) = refl
-    go true (Copy v w) = refl
-    go true (Clear v) = refl
-    go true (Link v f w) = refl
-    go true (Put v f x) = refl
-    go true (Blank v f) = refl
-    go true (Follow v f w) = refl
-    go true (Read v f) = refl
-    go true (Same v w) = refl
-    go true Settle = refl
-    go false (New v) = refl
-    go false (Copy v w) = refl
-    go false (Clear v) = refl
-    go false (Link v f w) = refl
-    go false (Put v f x) = refl
-    go false (Blank v f) = refl
-    go false (Follow v f w) = refl
-    go false (Read v f) = refl
-    go false (Same v w) = refl
-    go false Settle = refl
-
 handed-in : (cs : List Call) (as′ : List Answer) (rest : List ℤ) → length as′ ≡ length cs → handedOut (said cs (answerWords as′ ++ rest)) ≡ facts.madeIn cs as′
 handed-in [] as′ rest e = refl
 handed-in (c ∷ cs) [] rest e = absurd (omega arith)
-handed-in (c ∷ cs) (a ∷ as′) rest e = let i = handed-in cs as′ rest (omega arith) in let d = handed-made c (a .status) in omega arith
+handed-in (c ∷ cs) (a ∷ as′) rest e = let i = handed-in cs as′ rest (omega arith) in omega arith
 
 -- ---- an accepted batch
 

@@ -19,6 +19,7 @@ use Rattle.rules.specs.Table.{has}
 use Rattle.rules.specs.Rules.{replay}
 use Rattle.rules.specs.Settle.{Shape, Heap, holds, pick, place, field, reclaim, replayed, settledBy, settled}
 use Rattle.rules.specs.Call.{Answer, answer, var, want, orElse, check, logs, hold}
+use Rattle.rules.specs.Demands.{isNew}
 use Rattle.rules.specs.Step.{Stepped, done, refused, settledIf, full, noneFree, takeCell, doNew, doSettle, doCall, room, run, step, calls, batch}
 use Rattle.rules.proofs.Fine.{Fine}
 use Rattle.rules.proofs.Invariant.{refs, live, count, Inv, Ended}
@@ -44,21 +45,9 @@ pub record Taking (s : Sizes) (h : Heap) (k a : ℕ) : Type 0 where
 
 -- ---- cells made
 
-abbrev pub isNew : Call → ℕ
-isNew (New v) = 1
-isNew (Copy v w) = 0
-isNew (Clear v) = 0
-isNew (Link v f w) = 0
-isNew (Put v f x) = 0
-isNew (Blank v f) = 0
-isNew (Follow v f w) = 0
-isNew (Read v f) = 0
-isNew (Same v w) = 0
-isNew Settle = 0
-
 -- 1 for a new that was answered 0
 abbrev pub made : Call → Answer → ℕ
-made c r = cond (eqb (r .status) 0) (isNew c) 0
+made c r = cond (isNew c) (cond (eqb (r .status) 0) 1 0) 0
 
 abbrev pub madeIn : List Call → List Answer → ℕ
 madeIn [] rs = 0
@@ -272,9 +261,13 @@ module _ (s : Sizes) (ok : Fine s) where
       out : ℕ → Stepped
       out k = elim k as (λ x. Stepped) [ zero ↦ run s c h | suc j ↦ refused h (suc j) ]
 
+      none-made : (q : Bool) → Sum h ≡ Sum h + cond q 0 0
+      none-made true = plus-0 (Sum h) (Sum h) refl
+      none-made false = plus-0 (Sum h) (Sum h) refl
+
       go : (k : ℕ) → check c (h .shape) ≡ k → Sum (out k .heap) ≡ Sum h + made c (out k .answer)
       go zero e = run-sum c h g f e
-      go (suc j) e = rw (ne-eqb (suc j) 0 (omega arith)) (plus-0 (Sum h) (Sum h) refl)
+      go (suc j) e = rw (ne-eqb (suc j) 0 (omega arith)) (none-made (isNew c))
 
   pub calls-sum : (cs : List Call) (h : Heap) → Inv s h → AllFit s cs → Sum (calls s cs h .heap) ≡ Sum h + madeIn cs (calls s cs h .answers)
   unfolding calls

@@ -2,7 +2,7 @@
 use Prim.Native.Nat.{ℕ, zero, suc, _+_, _*_, _-_, _<_, _≤_}
 use mathlib.Core.Path.{_≡_, refl, sym, ap, _∙_}
 use mathlib.Core.Logic.{_⊎_, inl, inr}
-use mathlib.Core.Bool.{Bool, true, false, _||_, cond, true≢false, false≢true}
+use mathlib.Core.Bool.{Bool, true, false, _||_, cond, true≢false, false≢true, or-true}
 use mathlib.Core.Option.{Option, none, some}
 use mathlib.Core.List.{List, [], _∷_, _++_, map}
 use native.Mathlib.Omega.{arith}
@@ -25,10 +25,6 @@ getD-any [] i d e h = absurd (omega arith)
 getD-any (x ∷ l) zero d e h = refl
 getD-any (x ∷ l) (suc i) d e h = getD-any l i d e (omega arith)
 
-or-right : (p : Bool) → (p || true) ≡ true
-or-right true = refl
-or-right false = refl
-
 -- ---- a table as an ascending list
 
 -- a is the entry at this place
@@ -40,7 +36,7 @@ pub record Entered (a : ℕ) (z : List ℕ) : Type 0 where
 pub has-at : (z : List ℕ) (j : ℕ) → j < length z → has (getD z j 0) z ≡ true
 has-at [] j h = absurd (omega arith)
 has-at (x ∷ z) zero h = rw (eq-eqb x x refl)
-has-at (x ∷ z) (suc j) h = rw (has-at z j (omega arith)) (or-right (eqb (getD z j 0) x))
+has-at (x ∷ z) (suc j) h = rw (has-at z j (omega arith)) (or-true (eqb (getD z j 0) x))
 
 later : {a x : ℕ} {z : List ℕ} → Entered a z → Entered a (x ∷ z)
 later e = record { index = suc (e .index); within = omega arith; same = e .same }
@@ -204,7 +200,7 @@ at-holds (o ∷ vs) (suc v) h = more o (at-holds vs v (omega arith))
   where
     wider : (o : Option ℕ) (b : ℕ) → holds b vs ≡ true → holds b (o ∷ vs) ≡ true
     wider none b e = e
-    wider (some a) b e = rw e (or-right (eqb b a))
+    wider (some a) b e = rw e (or-true (eqb b a))
 
     more : (o : Option ℕ) → (getD (map variableOf vs) v (pos 0) ≡ negsuc 0) ⊎ ((b : ℕ) × (getD (map variableOf vs) v (pos 0) ≡ pos b) × (holds b vs ≡ true)) →
         (getD (map variableOf vs) v (pos 0) ≡ negsuc 0) ⊎ ((b : ℕ) × (getD (map variableOf vs) v (pos 0) ≡ pos b) × (holds b (o ∷ vs) ≡ true))
@@ -351,14 +347,20 @@ module _ (n : ℕ) (fs : List Field) (len : length fs ≡ 2 * n) where
   unfolding field place
   of-word a f w = rw (kind-at fs (2 * a + f), word-at fs (2 * a + f)) w
 
--- every place is a cell's
-pub place-of : (i : ℕ) → (a : ℕ) × (f : ℕ) × (f < 2) × (i ≡ 2 * a + f)
-place-of zero = (0, 0, omega arith, refl)
-place-of (suc i) = go (place-of i)
-  where
-    go : ((a : ℕ) × (f : ℕ) × (f < 2) × (i ≡ 2 * a + f)) → (a : ℕ) × (f : ℕ) × (f < 2) × (suc i ≡ 2 * a + f)
-    go (a, zero, h, e) = (a, 1, omega arith, omega arith)
-    go (a, suc f, h, e) = (suc a, 0, omega arith, omega arith)
+-- the cell and the field that a place is of
+pub record Half (i : ℕ) : Type 0 where
+  pub cell : ℕ
+  pub part : ℕ
+  pub is : i ≡ 2 * cell + part
+  pub small : part < 2
+
+pub half : (i : ℕ) → Half i
+half zero = record { cell = 0; part = 0; is = refl; small = omega arith }
+half (suc zero) = record { cell = 0; part = 1; is = refl; small = omega arith }
+half (suc (suc i)) =
+    let h = half i in
+    let e = h .is in
+    record { cell = suc (h .cell); part = h .part; is = omega arith; small = h .small }
 
 hit-one : (f : Field) (b : ℕ) → (f ≡ Cell b → ⊥) → hit f b ≡ 0
 hit-one Nothing b d = refl

@@ -2,7 +2,7 @@
 use Prim.Native.Nat.{ℕ, zero, suc, _+_, _*_, _<_, _≤_}
 use mathlib.Core.Path.{_≡_, refl, sym, ap, _∙_, subst}
 use mathlib.Core.Logic.{_⊎_, inl, inr}
-use mathlib.Core.Bool.{Bool, true, false, _||_, cond, true≢false, false≢true}
+use mathlib.Core.Bool.{Bool, true, false, _||_, cond, true≢false, false≢true, or-true}
 use mathlib.Core.Option.{Option, none, some}
 use mathlib.Core.List.{List, [], _∷_, _++_}
 use native.Mathlib.Omega.{arith}
@@ -17,7 +17,7 @@ use Rattle.rules.specs.Rules.{Tables, Transaction, apply, replay, leaveZ
 use Rattle.rules.specs.Settle.{Heap, drops, holds, pick, onPick, place, field, store, freeCell, reclaim}
 use Rattle.rules.specs.Rows.{Kept}
 use Rattle.rules.proofs.Invariant.{hit, refs, used, live, view, count, okOf, Counted, Good, Done, Fitting, Small}
-use Rattle.rules.proofs.Tables.{eqb-self, or-right, remove-own, remove-other}
+use Rattle.rules.proofs.Tables.{eqb-self, remove-own, remove-other}
 use Rattle.rules.proofs.Sorted.{leaveZct-kept, replay-kept, small-append}
 use Rattle.rules.proofs.Exact.{refs-set, drop-counted}
 
@@ -28,7 +28,7 @@ pick-some hs [] a e = absurd (let w : _≡_ {A = ℕ} 0 1 = cc in omega arith)
 pick-some hs (x ∷ z) a e = go (holds x hs) refl e (pick-some hs z a)
   where
     go : (p : Bool) → holds x hs ≡ p → cond p (pick hs z) (some x) ≡ some a → (pick hs z ≡ some a → (has a z ≡ true) × (holds a hs ≡ false)) → (has a (x ∷ z) ≡ true) × (holds a hs ≡ false)
-    go true d e h = (rw (h e .0) (or-right (eqb a x)), h e .1)
+    go true d e h = (rw (h e .0) (or-true (eqb a x)), h e .1)
     go false d e h = let f : x ≡ a = cc in (rw (eq-eqb a x (sym f)), rw f at d)
 
 pub pick-none : (hs : List (Option ℕ)) (z : List ℕ) → pick hs z ≡ none → (a : ℕ) → has a z ≡ true → holds a hs ≡ true

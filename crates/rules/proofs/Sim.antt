@@ -2,7 +2,7 @@
 use Prim.Native.Nat.{ℕ, zero, suc, _+_, _*_, _<_}
 use mathlib.Core.Path.{_≡_, refl, sym, ap, ap₂, _∙_}
 use mathlib.Core.Logic.{_⊎_, inl, inr}
-use mathlib.Core.Bool.{Bool, true, false, _||_, cond, true≢false}
+use mathlib.Core.Bool.{Bool, true, false, _||_, or-true, cond, true≢false}
 use mathlib.Core.Option.{Option, none, some}
 use mathlib.Core.List.{List, [], _∷_, _++_, map}
 use native.Mathlib.Omega.{arith}
@@ -24,7 +24,7 @@ use Rattle.rules.specs.Endless.{Endless, endless, EndlessStep, endlessRu
 use Rattle.rules.specs.Run.{NotSettle}
 use Rattle.rules.proofs.Fine.{Fine}
 use Rattle.rules.proofs.Invariant.{used, live, Good, Inv}
-use Rattle.rules.proofs.Tables.{eqb-self, or-right}
+use Rattle.rules.proofs.Tables.{eqb-self}
 use Rattle.rules.proofs.Reclaim.{place-in, cell-live, live-store-0, length-store, freeCell-lives, reclaim-keeps}
 use Rattle.rules.proofs.FreeList.{Taken, field-other, field-same, field-across}
 use Rattle.rules.proofs.Calls.{Fits, held-11, two-11, toCell-used, var-live, store-live}
@@ -53,7 +53,7 @@ map-set f [] i x = refl
 map-set f (y ∷ l) zero x = refl
 map-set f (y ∷ l) (suc i) x = ap (λ t. f y ∷ t) (map-set f l i x)
 
-abbrev pub NotNew : Call → Type 0
+abbrev NotNew : Call → Type 0
 NotNew (New v) = ⊥
 NotNew (Copy v w) = Unit {0}
 NotNew (Clear v) = Unit {0}
@@ -103,7 +103,7 @@ module _ (s : Sizes) (ok : Fine s) (h : Shape) (t : Tables) (g : Good (s .n) (s 
   figure-ren (Cell a) = (refl, refl)
   figure-ren (Free a) = (refl, refl)
 
-  pub check-same : (c : Call) → Fits s c → check c (e .shape) ≡ check c h
+  check-same : (c : Call) → Fits s c → check c (e .shape) ≡ check c h
   unfolding check
   check-same (New v) f = refl
   check-same (Copy v w) f = refl
@@ -129,7 +129,7 @@ module _ (s : Sizes) (ok : Fine s) (h : Shape) (t : Tables) (g : Good (s .n) (s 
           at true m = eq-eqb (ρ a) (ρ b) (ap ρ (eqb-true a b m))
           at false m = ne-eqb (ρ a) (ρ b) (λ i. eqb-false a b m (R .inj a b (var-live s ok h t g v a d) (var-live s ok h t g w b d′) i))
 
-  pub value-same : (c : Call) → Fits s c → value c (e .shape) ≡ value c h
+  value-same : (c : Call) → Fits s c → value c (e .shape) ≡ value c h
   unfolding value
   value-same (New v) f = refl
   value-same (Copy v w) f = refl
@@ -144,7 +144,7 @@ module _ (s : Sizes) (ok : Fine s) (h : Shape) (t : Tables) (g : Good (s .n) (s 
 
   -- ---- what the calls do
 
-  pub sim-hold : (v : ℕ) (o o′ : Option ℕ) → o′ ≡ ren ρ o → Sim ρ (hold h v o) (record { shape = hold (e .shape) v o′; next = e .next })
+  sim-hold : (v : ℕ) (o o′ : Option ℕ) → o′ ≡ ren ρ o → Sim ρ (hold h v o) (record { shape = hold (e .shape) v o′; next = e .next })
   unfolding hold
   sim-hold v o o′ p = record { vars = rw (p, R .vars) (sym (map-set (ren ρ) (h .variables) v o)); cells = R .cells; inj = R .inj; below = R .below; len = R .len }
 
@@ -202,7 +202,7 @@ module _ (s : Sizes) (ok : Fine s) (h : Shape) (t : Tables) (g : Good (s .n) (s 
   target-ren (Cell a) = refl
   target-ren (Free a) = refl
 
-  pub sim-act : (c : Call) → NotNew c → Fits s c → check c h ≡ 0 → Sim ρ (act c h) (endlessRun c e)
+  sim-act : (c : Call) → NotNew c → Fits s c → check c h ≡ 0 → Sim ρ (act c h) (endlessRun c e)
   unfolding act endlessRun check
   sim-act (New v) nn f d = absurd nn
   sim-act (Copy v w) nn f d = sim-hold v (var h w) (var (e .shape) w) (var-ren w)
@@ -218,7 +218,7 @@ module _ (s : Sizes) (ok : Fine s) (h : Shape) (t : Tables) (g : Good (s .n) (s 
   sim-act Settle nn f d = R
 
 -- fewer cells in use, with the fields that they had
-pub sim-less : (ρ : ℕ → ℕ) (h h′ : Shape) (e : Endless) → h′ .variables ≡ h .variables → ((b : ℕ) → live (h′ .fields) b ≡ true → live (h .fields) b ≡ true)
+sim-less : (ρ : ℕ → ℕ) (h h′ : Shape) (e : Endless) → h′ .variables ≡ h .variables → ((b : ℕ) → live (h′ .fields) b ≡ true → live (h .fields) b ≡ true)
     → ((b f : ℕ) → live (h′ .fields) b ≡ true → f < 2 → field (h′ .fields) b f ≡ field (h .fields) b f) → Sim ρ h e → Sim ρ h′ e
 sim-less ρ h h′ e v l f R =
     record {
@@ -253,7 +253,7 @@ sim-settled s ok h g ρ e R = reclaim-keeps (s .n) (s .cap) (ok .cap-least) hs (
 map-agree : (ρ σ : ℕ → ℕ) (vs : List (Option ℕ)) → ((a : ℕ) → holds a vs ≡ true → σ a ≡ ρ a) → map (ren ρ) vs ≡ map (ren σ) vs
 map-agree ρ σ [] p = refl
 map-agree ρ σ (none ∷ vs) p = ap (λ l. none ∷ l) (map-agree ρ σ vs p)
-map-agree ρ σ (some b ∷ vs) p = ap₂ (λ (x : ℕ) l. some x ∷ l) (sym (p b (rw (eqb-self b)))) (map-agree ρ σ vs (λ a k. p a (rw k (or-right (eqb a b)))))
+map-agree ρ σ (some b ∷ vs) p = ap₂ (λ (x : ℕ) l. some x ∷ l) (sym (p b (rw (eqb-self b)))) (map-agree ρ σ vs (λ a k. p a (rw k (or-true (eqb a b)))))
 
 field-append : (l r : List Field) (a f : ℕ) → place a f < length l → field (l ++ r) a f ≡ field l a f
 unfolding field
@@ -269,7 +269,7 @@ new-field l k f e h = rw (← e, getD-append-add) (go f h)
     go (suc (suc f)) h = absurd (omega arith)
 
 module _ (s : Sizes) (ok : Fine s) (h : Heap) (g : Inv s h) (d : noneFree s h ≡ false) (ρ : ℕ → ℕ) (e : Endless) (R : Sim ρ (h .shape) e) where
-  abbrev pub extend : ℕ → ℕ
+  abbrev extend : ℕ → ℕ
   extend b = cond (eqb b (h .first)) (e .next) (ρ b)
 
   Tk : Taken (s .n) (h .shape .fields) (h .first) (g .good .len) (g .frees)
@@ -302,7 +302,7 @@ module _ (s : Sizes) (ok : Fine s) (h : Heap) (g : Inv s h) (d : noneFree s h �
       go true i m = inl (eqb-true b (h .first) i)
       go false i m = inr m
 
-  pub sim-take : (v : ℕ) → Sim extend (takeCell v h .shape) (endlessRun (New v) e)
+  sim-take : (v : ℕ) → Sim extend (takeCell v h .shape) (endlessRun (New v) e)
   unfolding takeCell hold endlessRun place
   sim-take v =
       record {
