@@ -1,0 +1,4 @@
+pub mod Laws
+pub mod Places
+pub mod Single
+pub mod Pairs
