@@ -1,0 +1,279 @@
+-- A call, a settle and a batch keep a heap's invariant; a batch ends settled. Assumes nothing.
+use Prim.Native.Nat.{ℕ, zero, suc, _+_, _<_, _≤_}
+use mathlib.Core.Path.{_≡_, refl, sym, ap, _∙_}
+use mathlib.Core.Logic.{_⊎_, inl, inr}
+use mathlib.Core.Bool.{Bool, true, false, _||_, cond, true≢false}
+use mathlib.Core.Option.{Option, some}
+use mathlib.Core.List.{List, [], _∷_}
+use native.Mathlib.Omega.{arith}
+use lib.Dec.{eqb}
+use lib.IntN.{pos}
+use lib.ListN.{length, length-set, length-append}
+use borrow.Author.Tests.{eqb-true, eqb-false, ltb-false}
+use Rattle.rules.specs.declared.Field.the-variants.{Nothing}
+use Rattle.rules.specs.declared.Call.{Call}
+use Rattle.rules.specs.declared.Call.the-variants.{New, Copy, Clear, Link, Put, Blank, Follow, Read, Same, Settle}
+use Rattle.rules.specs.Head.{Sizes}
+use Rattle.rules.specs.Rules.{Tables, allocates, apply, replay}
+use Rattle.rules.specs.Settle.{Shape, Heap, holds, place, store, replayed, settledBy, settled}
+use Rattle.rules.specs.Call.{var, check, logs, hold}
+use Rattle.rules.specs.Step.{Stepped, done, refused, settledIf, full, noneFree, takeCell, doNew, doSettle, doCall, room, run, step, calls, batch}
+use Rattle.rules.specs.Rows.{Kept}
+use Rattle.rules.proofs.Invariant.{refs, live, view, Counted, Good, Frees, Small, Inv, Done, Ended}
+use Rattle.rules.proofs.Tables.{view-own, view-other, change}
+use Rattle.rules.proofs.Sorted.{replay-kept, small-append}
+use Rattle.rules.proofs.Reclaim.{live-store-0, refs-store, length-store, replay-append, lives, lives-le, Plain1, Figures, plain-store, plain-store-0, figures-store, reclaim-good, reclaim-log, reclaim-variables, reclaim-sum, reclaim-plain, reclaim-figures, reclaim-kept}
+use Rattle.rules.proofs.FreeList.{Taken, frees-store, frees-take, reclaim-frees}
+use Rattle.rules.proofs.Calls.{Fits, AllFit, SizesOk, holds-set, call-good, act-keeps, act-variables, logs-small, logs-long, store-live}
+
+-- ---- a settle that counts any holds
+
+module _ (s : Sizes) (ok : SizesOk s) (hs : List (Option ℕ)) (h : Heap)
+    (g : Good (s .n) (s .cap) (h .shape .fields) hs (replay (s .cap) (h .log) (h .tables))) where
+  few : lives (h .shape .fields) ≤ s .n
+  few = let l = lives-le (h .shape .fields) in let e = g .len in omega arith
+
+  pub settledBy-good : Good (s .n) (s .cap) (settledBy s hs h .shape .fields) hs (settledBy s hs h .tables)
+  unfolding settledBy replayed
+  settledBy-good = reclaim-good (s .n) (s .cap) (ok .cap-least) hs (s .n) (replayed (s .cap) h) g few .0
+
+  pub settledBy-done : Done hs (settledBy s hs h)
+  unfolding settledBy replayed
+  settledBy-done = reclaim-good (s .n) (s .cap) (ok .cap-least) hs (s .n) (replayed (s .cap) h) g few .1
+
+  pub settledBy-log : settledBy s hs h .log ≡ []
+  unfolding settledBy replayed
+  settledBy-log = reclaim-log (s .n) (s .cap) (ok .cap-least) hs (s .n) (replayed (s .cap) h) g
+
+  pub settledBy-variables : settledBy s hs h .shape .variables ≡ h .shape .variables
+  unfolding settledBy replayed
+  settledBy-variables = reclaim-variables (s .n) (s .cap) (ok .cap-least) hs (s .n) (replayed (s .cap) h) g
+
+  pub settledBy-sum : lives (settledBy s hs h .shape .fields) + settledBy s hs h .freed ≡ lives (h .shape .fields) + h .freed
+  unfolding settledBy replayed
+  settledBy-sum = reclaim-sum (s .n) (s .cap) (ok .cap-least) hs (s .n) (replayed (s .cap) h) g
+
+  pub settledBy-frees : Frees (s .n) (h .shape .fields) (h .first) → Frees (s .n) (settledBy s hs h .shape .fields) (settledBy s hs h .first)
+  unfolding settledBy replayed
+  settledBy-frees = reclaim-frees (s .n) (s .cap) (ok .cap-least) hs (s .n) (replayed (s .cap) h) g
+
+  pub settledBy-kept : Kept (s .n) (s .cap) (h .tables) → Small (s .n) (h .log) → Kept (s .n) (s .cap) (settledBy s hs h .tables)
+  unfolding settledBy replayed
+  settledBy-kept k l = reclaim-kept (s .n) (s .cap) (ok .cap-least) hs (s .n) (replayed (s .cap) h) g (replay-kept (s .n) (s .cap) (ok .cap-least) (h .log) (h .tables) k l)
+
+  pub settledBy-plain : Plain1 (h .shape .fields) → Plain1 (settledBy s hs h .shape .fields)
+  unfolding settledBy replayed
+  settledBy-plain = reclaim-plain (s .n) (s .cap) (ok .cap-least) hs (s .n) (replayed (s .cap) h) g
+
+  pub settledBy-figures : Figures (h .shape .fields) → Figures (settledBy s hs h .shape .fields)
+  unfolding settledBy replayed
+  settledBy-figures = reclaim-figures (s .n) (s .cap) (ok .cap-least) hs (s .n) (replayed (s .cap) h) g
+
+module _ (s : Sizes) (ok : SizesOk s) where
+  -- ---- settle
+
+  pub settled-done : (h : Heap) → Inv s h → (Done (h .shape .variables) (settled s h)) × ((settled s h .log ≡ []) × (settled s h .shape .variables ≡ h .shape .variables))
+  unfolding settled
+  settled-done h g = let hs = h .shape .variables in (settledBy-done s ok hs h (g .good), (settledBy-log s ok hs h (g .good), settledBy-variables s ok hs h (g .good)))
+
+  pub settled-inv : (h : Heap) → Inv s h → Inv s (settled s h)
+  unfolding settled replay
+  settled-inv h g =
+      let hs = h .shape .variables in
+      let l = settledBy-log s ok hs h (g .good) in
+      let v = settledBy-variables s ok hs h (g .good) in
+      record {
+        good = rw (l, v) (settledBy-good s ok hs h (g .good));
+        frees = settledBy-frees s ok hs h (g .good) (g .frees);
+        kept = settledBy-kept s ok hs h (g .good) (g .kept) (g .log-small);
+        plain-1 = settledBy-plain s ok hs h (g .good) (g .plain-1);
+        figures = settledBy-figures s ok hs h (g .good) (g .figures);
+        variables-long = rw v (g .variables-long);
+        log-room = rw l (omega arith);
+        log-small = rw l tt;
+      }
+
+  pub settle-ended : (h : Heap) → Inv s h → Ended s (settled s h)
+  settle-ended h g = let d = settled-done h g in record { inv = settled-inv h g; settled-all = rw (d .1 .1) (d .0); log-empty = d .1 .0 }
+
+  pub settledIf-inv : (b : Bool) (h : Heap) → Inv s h → (Inv s (settledIf b s h)) × (settledIf b s h .shape .variables ≡ h .shape .variables)
+  unfolding settledIf
+  settledIf-inv true h g = (settled-inv h g, settled-done h g .1 .1)
+  settledIf-inv false h g = (g, refl)
+
+  -- where there is no settle there was room for k entries; at most two are wanted
+  pub settledIf-room : (b : Bool) (k j : ℕ) (h : Heap) → Inv s h → (b ≡ false → full s k h ≡ false) → j ≤ 2 → (b ≡ false → j ≤ k) → length (settledIf b s h .log) + j ≤ s .l
+  unfolding settledIf full
+  settledIf-room true k j h g f i e = let o = ok .l-least in rw (settled-done h g .1 .0) (omega arith)
+  settledIf-room false k j h g f i e = let r = ltb-false (s .l) (length (h .log) + k) (f refl) in let o = e refl in omega arith
+
+  -- ---- the calls but new and settle
+
+  module _ (h : Heap) (g : Inv s h) where
+    t : Tables
+    t = replay (s .cap) (h .log) (h .tables)
+
+    pub doCall-inv : (c : Call) → Fits s c → check c (h .shape) ≡ 0 → length (h .log) + length (logs c (h .shape)) ≤ s .l → Inv s (doCall c h .heap)
+    unfolding doCall t
+    doCall-inv c f e r =
+        record {
+          good = rw replay-append (call-good s ok (h .shape) t (g .good) c f e);
+          frees =
+              act-keeps s ok (h .shape) t (g .good) (λ fs. Frees (s .n) fs (h .first)) (g .frees)
+              (λ a f x i l u p. frees-store (s .n) (h .shape .fields) (h .first) (g .good .len) (g .frees) a f x i l (store-live s ok (h .shape) t (g .good) a f x i l u))
+              c f e;
+          kept = g .kept;
+          plain-1 = act-keeps s ok (h .shape) t (g .good) Plain1 (g .plain-1) (λ a f x i l u p. plain-store (h .shape .fields) a f x u (g .plain-1)) c f e;
+          figures = act-keeps s ok (h .shape) t (g .good) Figures (g .figures) (λ a f x i l u p. figures-store (h .shape .fields) a f x p (g .figures)) c f e;
+          variables-long = act-variables c (h .shape) ∙ g .variables-long;
+          log-room = rw length-append r;
+          log-small = small-append (s .n) (h .log) (logs c (h .shape)) (g .log-small) (logs-small s ok (h .shape) t (g .good) c f);
+        }
+
+    -- ---- new
+
+    pub taken : noneFree s h ≡ false → Taken (s .n) (h .shape .fields) (h .first) (g .good .len) (g .frees)
+    unfolding noneFree
+    taken d = frees-take (s .n) (h .shape .fields) (h .first) (g .good .len) (g .frees) d
+
+    pub take-inv : (v : ℕ) → noneFree s h ≡ false → length (h .log) + 1 ≤ s .l → Inv s (takeCell v h)
+    unfolding takeCell hold replay change place t
+    take-inv v d r =
+        record {
+          good =
+              record {
+                len = rw length-store (g .good .len);
+                counted = λ b. rw (replay-append, refs′ b, live′ b) (go b (eqb b (h .first)) refl);
+                held = λ b i. rw (live′ b) (kept b (eqb b (h .first)) refl (holds-set (h .shape .variables) v (some (h .first)) b i));
+              };
+          frees = T .rest;
+          kept = g .kept;
+          plain-1 = plain-store-0 (h .shape .fields) (h .first) Nothing (g .plain-1);
+          figures = figures-store (h .shape .fields) (h .first) 0 Nothing tt (g .figures);
+          variables-long = length-set (h .shape .variables) v (some (h .first)) ∙ g .variables-long;
+          log-room = rw length-append r;
+          log-small = small-append (s .n) (h .log) (allocates (h .first) ∷ []) (g .log-small) (below, tt);
+        }
+      where
+        T : Taken (s .n) (h .shape .fields) (h .first) (g .good .len) (g .frees)
+        T = taken d
+
+        there-0 : place (h .first) 0 < length (h .shape .fields)
+        there-0 = let k = T .there in omega arith
+
+        below : h .first < s .n
+        below = let k = T .there in let l = g .good .len in omega arith
+
+        live′ : (b : ℕ) → live (store (h .shape .fields) (h .first) 0 Nothing) b ≡ cond (eqb b (h .first)) true (live (h .shape .fields) b)
+        live′ b = live-store-0 (h .shape .fields) (h .first) b Nothing there-0
+
+        refs′ : (b : ℕ) → refs (store (h .shape .fields) (h .first) 0 Nothing) b ≡ refs (h .shape .fields) b
+        refs′ b = let e = rw (T .mark .1) at (refs-store (h .shape .fields) (h .first) 0 b Nothing there-0) in omega arith
+
+        old : (view t (h .first) ≡ (false, 0)) × (refs (h .shape .fields) (h .first) ≡ 0)
+        old = g .good .counted (h .first) .gone (T .was-free)
+
+        fresh-view : view (apply (s .cap) (allocates (h .first)) t) (h .first) ≡ (true, 0)
+        fresh-view = view-own (s .cap) (allocates (h .first)) t ∙ ap (change (s .cap) (allocates (h .first))) (old .0)
+
+        own : Counted (s .cap) (apply (s .cap) (allocates (h .first)) t) (refs (h .shape .fields) (h .first)) true (h .first)
+        own = record { ok = rw fresh-view tt; exact = λ l. inr (rw fresh-view (sym (old .1))); gone = λ l. absurd (true≢false l) }
+
+        go : (b : ℕ) (q : Bool) → eqb b (h .first) ≡ q → Counted (s .cap) (apply (s .cap) (allocates (h .first)) t) (refs (h .shape .fields) b) (cond q true (live (h .shape .fields) b)) b
+        go b true e = rw (eqb-true b (h .first) e) own
+        go b false e =
+            let c = g .good .counted b in
+            record {
+              ok = rw (view-other (s .cap) (allocates (h .first)) t b e) (c .ok);
+              exact = rw (view-other (s .cap) (allocates (h .first)) t b e) (c .exact);
+              gone = rw (view-other (s .cap) (allocates (h .first)) t b e) (c .gone);
+            }
+
+        kept : (b : ℕ) (q : Bool) → eqb b (h .first) ≡ q → (some (h .first) ≡ some b) ⊎ (holds b (h .shape .variables) ≡ true) → cond q true (live (h .shape .fields) b) ≡ true
+        kept b true e i = refl
+        kept b false e (inl i) = absurd (eqb-false b (h .first) e (cc))
+        kept b false e (inr i) = g .good .held b i
+
+  -- ---- a call
+
+  same-check : Call → Type 0
+  same-check c = (a b : Shape) → a .variables ≡ b .variables → check c a ≡ check c b
+
+  room-inv : (c : Call) (h : Heap) → Inv s h → Fits s c → check c (h .shape) ≡ 0 → same-check c → Inv s (doCall c (room s c h) .heap)
+  unfolding room same-check settledIf
+  room-inv c h g f e p = go (full s (length (logs c (h .shape))) h) refl
+    where
+      go : (q : Bool) → full s (length (logs c (h .shape))) h ≡ q → Inv s (doCall c (settledIf q s h) .heap)
+      go q d =
+          let r = settledIf-inv q h g in
+          doCall-inv (settledIf q s h) (r .0) c f (p (settledIf q s h .shape) (h .shape) (r .1) ∙ e)
+          (settledIf-room q (length (logs c (h .shape))) (length (logs c (settledIf q s h .shape))) h g (λ x. d ∙ x) (logs-long c (settledIf q s h .shape)) (same q))
+        where
+          same : (q : Bool) → q ≡ false → length (logs c (settledIf q s h .shape)) ≤ length (logs c (h .shape))
+          same true x = absurd (true≢false x)
+          same false x = omega arith
+
+  -- the settle before a new
+  pub new-room : (h : Heap) → Inv s h → length (settledIf (full s 1 h || noneFree s h) s h .log) + 1 ≤ s .l
+  new-room h g = settledIf-room (full s 1 h || noneFree s h) 1 1 h g (either (full s 1 h) (noneFree s h)) (omega arith) (λ x. omega arith)
+    where
+      either : (p q : Bool) → (p || q) ≡ false → p ≡ false
+      either true q e = e
+      either false q e = refl
+
+  pub doNew-inv : (v : ℕ) (h : Heap) → Inv s h → length (h .log) + 1 ≤ s .l → Inv s (doNew s v h .heap)
+  unfolding doNew
+  doNew-inv v h g r = at (noneFree s h) refl
+    where
+      at : (q : Bool) → noneFree s h ≡ q → Inv s ((cond q (refused h 14) (done (takeCell v h) (pos 0))) .heap)
+      at true d = g
+      at false d = take-inv h g v d r
+
+  short : (h : Heap) → Inv s h → length (h .log) + 0 ≤ s .l
+  short h g = let r = g .log-room in omega arith
+
+  pub run-inv : (c : Call) (h : Heap) → Inv s h → Fits s c → check c (h .shape) ≡ 0 → Inv s (run s c h .heap)
+  unfolding run doSettle check var logs same-check
+  run-inv (New v) h g f e = doNew-inv v (settledIf (full s 1 h || noneFree s h) s h) (settledIf-inv (full s 1 h || noneFree s h) h g .0) (new-room h g)
+  run-inv (Copy v w) h g f e = doCall-inv h g (Copy v w) f e (short h g)
+  run-inv (Clear v) h g f e = doCall-inv h g (Clear v) f e (short h g)
+  run-inv (Link v f w) h g k e = room-inv (Link v f w) h g k e (λ a b p. rw p)
+  run-inv (Put v f x) h g k e = room-inv (Put v f x) h g k e (λ a b p. rw p)
+  run-inv (Blank v f) h g k e = room-inv (Blank v f) h g k e (λ a b p. rw p)
+  run-inv (Follow v f w) h g k e = doCall-inv h g (Follow v f w) k e (short h g)
+  run-inv (Read v f) h g k e = doCall-inv h g (Read v f) k e (short h g)
+  run-inv (Same v w) h g f e = doCall-inv h g (Same v w) f e (short h g)
+  run-inv Settle h g f e = settled-inv h g
+
+  pub step-inv : (c : Call) (h : Heap) → Inv s h → Fits s c → Inv s (step s c h .heap)
+  unfolding step
+  step-inv c h g f = go (check c (h .shape)) refl
+    where
+      go : (k : ℕ) → check c (h .shape) ≡ k → Inv s ((elim k as (λ x. Stepped) [ zero ↦ run s c h | suc j ↦ refused h (suc j) ]) .heap)
+      go zero e = run-inv c h g f e
+      go (suc j) e = g
+
+  -- ---- a batch
+
+  pub calls-ended : (cs : List Call) (h : Heap) → Inv s h → AllFit s cs → Ended s (calls s cs h .heap)
+  unfolding calls
+  calls-ended [] h g f = settle-ended h g
+  calls-ended (c ∷ cs) h g f = calls-ended cs (step s c h .heap) (step-inv c h g (f .0)) (f .1)
+
+  -- the invariant does not ask how many cells were freed
+  pub counted-from-0 : (h : Heap) → Inv s h → Inv s (record { shape = h .shape; first = h .first; tables = h .tables; log = h .log; freed = 0 })
+  counted-from-0 h g =
+      record {
+        good = g .good;
+        frees = g .frees;
+        kept = g .kept;
+        plain-1 = g .plain-1;
+        figures = g .figures;
+        variables-long = g .variables-long;
+        log-room = g .log-room;
+        log-small = g .log-small;
+      }
+
+  pub batch-ended : (cs : List Call) (h : Heap) → Inv s h → AllFit s cs → Ended s (batch s cs h .heap)
+  unfolding batch
+  batch-ended cs h g f = calls-ended cs (record { shape = h .shape; first = h .first; tables = h .tables; log = h .log; freed = 0 }) (counted-from-0 h g) f
