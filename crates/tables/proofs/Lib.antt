@@ -2,3 +2,4 @@ pub mod Laws
 pub mod Places
 pub mod Single
 pub mod Pairs
+pub mod Steps

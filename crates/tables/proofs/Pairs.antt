@@ -74,7 +74,7 @@ module _ {cap used : ℕ} {ms cs : List ℕ} (C : Counted cap ms cs used) (a p :
       at : p ≡ place a (addresses m)
       at = rw (is-take (P .mrt-is)) at e
 
-      count-is : countIn a m ≡ getD cs p 0
+      pub count-is : countIn a m ≡ getD cs p 0
       count-is = count-at a m up there ∙ rw (← at, ← is-take (P .counts-is)) (getD-take used cs p 0 pair-used)
 
       same-pair : Pair n ms (set cs p (getD cs p 0)) used m

@@ -10,6 +10,7 @@ use lib.Seq.{length-take-le, getD-take}
 use lib.Dec.{ltb, eqb}
 use borrow.Author.Tests.{lt-ltb, le-ltb, ltb-true, ltb-false, eqb-true, eqb-false, ne-eqb, eq-eqb}
 use Rattle.rules.specs.Table.{Entry, entry, has, insert, remove, enter, delete, countIn, addresses, counts, Above, Below, Ascending}
+use Rattle.rules.proofs.Sorted.{enter-addresses as entered, delete-addresses as deleted}
 use Rattle.tables.specs.Row.{place, put, cut}
 use Rattle.tables.proofs.Laws.{above-at}
 
@@ -158,13 +159,7 @@ count-at a (x ∷ m) s h = go (versus a (x .address)) (count-at a m (s .1))
     go (more l t e g) ih = absurd (false≢true (sym (missing (x .address) a (addresses m) (s .0) (le-of-lt l)) ∙ (rw e at h)))
 
 pub enter-addresses : (a k : ℕ) (m : List Entry) → Ascending (addresses m) → has a (addresses m) ≡ true → addresses (enter a k m) ≡ addresses m
-enter-addresses a k [] s h = absurd (false≢true h)
-enter-addresses a k (x ∷ m) s h = go (versus a (x .address)) (enter-addresses a k m (s .1))
-  where
-    go : Versus a (x .address) → (has a (addresses m) ≡ true → addresses (enter a k m) ≡ addresses m) → addresses (enter a k (x ∷ m)) ≡ addresses (x ∷ m)
-    go (less l t e g) ih = rw (e, g) (ap (λ (y : List ℕ). x .address ∷ y) (ih (rw e at h)))
-    go (same q t e) ih = rw e (ap (λ (y : ℕ). y ∷ addresses m) (sym q))
-    go (more l t e g) ih = absurd (false≢true (sym (missing (x .address) a (addresses m) (s .0) (le-of-lt l)) ∙ (rw e at h)))
+enter-addresses a k m s h = entered a k m ∙ insert-there a (addresses m) s h
 
 pub enter-counts : (a k : ℕ) (m : List Entry) → Ascending (addresses m) → has a (addresses m) ≡ true → counts (enter a k m) ≡ set (counts m) (place a (addresses m)) k
 enter-counts a k [] s h = absurd (false≢true h)
@@ -176,13 +171,7 @@ enter-counts a k (x ∷ m) s h = go (versus a (x .address)) (enter-counts a k m 
     go (more l t e g) ih = absurd (false≢true (sym (missing (x .address) a (addresses m) (s .0) (le-of-lt l)) ∙ (rw e at h)))
 
 pub delete-addresses : (a : ℕ) (m : List Entry) → Ascending (addresses m) → has a (addresses m) ≡ true → addresses (delete a m) ≡ cut (place a (addresses m)) (addresses m)
-delete-addresses a [] s h = refl
-delete-addresses a (x ∷ m) s h = go (versus a (x .address)) (delete-addresses a m (s .1))
-  where
-    go : Versus a (x .address) → (has a (addresses m) ≡ true → addresses (delete a m) ≡ cut (place a (addresses m)) (addresses m)) → addresses (delete a (x ∷ m)) ≡ cut (place a (addresses (x ∷ m))) (addresses (x ∷ m))
-    go (less l t e g) ih = rw (e, t) (ap (λ (y : List ℕ). x .address ∷ y) (ih (rw e at h)))
-    go (same q t e) ih = rw (e, t, delete-none a m (missing (x .address) a (addresses m) (s .0) (omega arith)))
-    go (more l t e g) ih = absurd (false≢true (sym (missing (x .address) a (addresses m) (s .0) (le-of-lt l)) ∙ (rw e at h)))
+delete-addresses a m s h = deleted a m ∙ remove-cut a (addresses m) s h
 
 pub delete-counts : (a : ℕ) (m : List Entry) → Ascending (addresses m) → has a (addresses m) ≡ true → counts (delete a m) ≡ cut (place a (addresses m)) (counts m)
 delete-counts a [] s h = refl
@@ -195,13 +184,7 @@ delete-counts a (x ∷ m) s h = go (versus a (x .address)) (delete-counts a m (s
 
 -- an address that is no entry's: it is put in with its count
 pub put-addresses : (a k : ℕ) (m : List Entry) → has a (addresses m) ≡ false → addresses (enter a k m) ≡ put (place a (addresses m)) a (addresses m)
-put-addresses a k [] h = refl
-put-addresses a k (x ∷ m) h = go (versus a (x .address)) (put-addresses a k m)
-  where
-    go : Versus a (x .address) → (has a (addresses m) ≡ false → addresses (enter a k m) ≡ put (place a (addresses m)) a (addresses m)) → addresses (enter a k (x ∷ m)) ≡ put (place a (addresses (x ∷ m))) a (addresses (x ∷ m))
-    go (less l t e g) ih = rw (e, g, t) (ap (λ (y : List ℕ). x .address ∷ y) (ih (rw e at h)))
-    go (same q t e) ih = absurd (true≢false (rw e at h))
-    go (more l t e g) ih = rw (e, g, t)
+put-addresses a k m h = entered a k m ∙ insert-put a (addresses m) h
 
 pub put-counts : (a k : ℕ) (m : List Entry) → has a (addresses m) ≡ false → counts (enter a k m) ≡ put (place a (addresses m)) k (counts m)
 put-counts a k [] h = refl

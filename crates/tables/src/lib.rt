@@ -160,3 +160,64 @@ pub fn count_down(mrt: &mut [u32], counts: &mut [u32], used: usize, cap: u32, a:
     counts[p] = lower(cap, c);
     used
 }
+
+// An allocate of a: it enters in ZCT.
+pub fn allocate(zct: &mut [u32], used: Used, a: u32) -> Used
+    requires { ⌜ Listed (now zct) (used .zct) ⌝ }
+    requires { ⌜ a < length (now zct) ⌝ }
+    ensures { λ r. ⌜ ((n cap : ℕ) (ms cs : List ℕ) (t : Tables) → Ready n cap (now (zct .entry)) ms cs used t → Ready n cap (now (zct .exit)) ms cs r (apply cap (allocates a) t)) ⌝ }
+{
+    let z = enter(zct, used.zct, a);
+    Used {
+        zct: z,
+        mrt: used.mrt,
+    }
+}
+
+// A create of a pointer to a.
+pub fn create(
+    zct: &mut [u32],
+    mrt: &mut [u32],
+    counts: &mut [u32],
+    used: Used,
+    cap: u32,
+    a: u32,
+) -> Used
+    requires { ⌜ Tabled (length (now zct)) cap (now zct) (now mrt) (now counts) used ⌝ }
+    requires { ⌜ a < length (now zct) ⌝ }
+    ensures { λ r. ⌜ ((n : ℕ) (t : Tables) → Ready n cap (now (zct .entry)) (now (mrt .entry)) (now (counts .entry)) used t → Ready n cap (now (zct .exit)) (now (mrt .exit)) (now (counts .exit)) r (apply cap (creates a) t)) ⌝ }
+{
+    let zused = used.zct;
+    let mused = used.mrt;
+    let p = find(zct, zused, a);
+    if is_at(zct, zused, p, a) {
+        let z = leave(zct, zused, a);
+        return Used { zct: z, mrt: mused };
+    }
+    let m = count_up(mrt, counts, mused, cap, a);
+    Used { zct: zused, mrt: m }
+}
+
+// A destroy of a pointer to a.
+pub fn destroy(
+    zct: &mut [u32],
+    mrt: &mut [u32],
+    counts: &mut [u32],
+    used: Used,
+    cap: u32,
+    a: u32,
+) -> Used
+    requires { ⌜ Tabled (length (now zct)) cap (now zct) (now mrt) (now counts) used ⌝ }
+    requires { ⌜ a < length (now zct) ⌝ }
+    ensures { λ r. ⌜ ((n : ℕ) (t : Tables) → Ready n cap (now (zct .entry)) (now (mrt .entry)) (now (counts .entry)) used t → Ready n cap (now (zct .exit)) (now (mrt .exit)) (now (counts .exit)) r (apply cap (destroys a) t)) ⌝ }
+{
+    let zused = used.zct;
+    let mused = used.mrt;
+    let p = find(mrt, mused, a);
+    if is_at(mrt, mused, p, a) {
+        let m = count_down(mrt, counts, mused, cap, a);
+        return Used { zct: zused, mrt: m };
+    }
+    let z = enter(zct, zused, a);
+    Used { zct: z, mrt: mused }
+}
