@@ -1,7 +1,7 @@
 -- The rows of MRT that are entries, and the entries after a create or a destroy. Assumes nothing.
-use mathlib.Core.Path.{_≡_, refl, sym, ap, _∙_}
-use mathlib.Core.Bool.{Bool, true, false, cond}
-use mathlib.Core.List.{List, [], _∷_}
+use mathlib.Core.Path.{_≡_, refl, ap, _∙_}
+use mathlib.Core.Bool.{Bool, true, false}
+use mathlib.Core.List.{List}
 use Prim.Native.Nat.{ℕ, zero, suc, _+_, _-_, _≤_, _<_}
 use native.Mathlib.Numerals.{add-one}
 use native.Mathlib.Omega.{arith}
@@ -9,10 +9,9 @@ use lib.ListN.{length, take, getD, set}
 use lib.Seq.{length-take-le, getD-take, set-getD}
 use lib.Dec.{eqb}
 use borrow.Author.Tests.{eqb-true, eqb-false, ne-eqb, eq-eqb}
-use Rattle.rules.specs.Table.{Entry, has, enter, delete, countIn, addresses, counts, pad, All, Ascending}
+use Rattle.rules.specs.Table.{Entry, has, enter, delete, countIn, addresses, pad, Ascending}
 use Rattle.rules.specs.Rules.{Tables, enterMrt, leaveMrt, onCreate, onDestroy}
-use Rattle.rules.specs.Rows.{Is}
-use Rattle.tables.specs.Row.{place, put, cut, raised, lowered, Padded, Listed, Counted, Pair}
+use Rattle.tables.specs.Row.{place, put, cut, Moved, Listed, Counted, Pair}
 use Rattle.tables.proofs.Places.{count-none, count-at, enter-addresses, enter-counts, delete-addresses, delete-counts, put-addresses, put-counts}
 use Rattle.tables.proofs.Single.{all-at, is-take, put-is, cut-is, set-is, entry-used, enter-room}
 
@@ -92,29 +91,33 @@ module _ {cap used : ℕ} {ms cs : List ℕ} (C : Counted cap ms cs used) (a p :
         counts-is = rw (delete-counts a m up there, ← at) (cut-is (C .beside) (P .counts-is) p pair-used l y);
       }
 
-    pub counted-up : (v : ℕ) → v ≡ raised cap (getD cs p 0)
+    pub counted-up : (v : ℕ) → Moved cap (getD cs p 0) (getD cs p 0 + 1) v
         → (n : ℕ) (t : Tables) → Pair n ms cs used (t .mrt) → Pair n ms (set cs p v) used (onCreate cap a t false (countIn a (t .mrt)) .mrt)
-    counted-up v q n t P = go (eqb (getD cs p 0) cap) refl
+    counted-up v M n t P = go (eqb (getD cs p 0) cap) refl
       where
         go : (d : Bool) → eqb (getD cs p 0) cap ≡ d → Pair n ms (set cs p v) used (onCreate cap a t false (countIn a (t .mrt)) .mrt)
         go true w =
             let g = pair-count in
-            rw (count-is P, create-cap cap a t (getD cs p 0) (omega arith) (eqb-true (getD cs p 0) cap w), q, w) (same-pair P)
+            let e = eqb-true (getD cs p 0) cap w in
+            rw (count-is P, create-cap cap a t (getD cs p 0) (omega arith) e, M .stays e) (same-pair P)
         go false w =
             let g = pair-count in
-            rw (count-is P, create-more cap a t (getD cs p 0) (omega arith) (eqb-false (getD cs p 0) cap w), q, w) (set-pair P (getD cs p 0 + 1))
+            let e = eqb-false (getD cs p 0) cap w in
+            rw (count-is P, create-more cap a t (getD cs p 0) (omega arith) e, M .goes e) (set-pair P (getD cs p 0 + 1))
 
-    pub counted-down : (v : ℕ) → (getD cs p 0 ≡ 2 → ⊥) → v ≡ lowered cap (getD cs p 0)
+    pub counted-down : (v : ℕ) → (getD cs p 0 ≡ 2 → ⊥) → Moved cap (getD cs p 0) (getD cs p 0 - 1) v
         → (n : ℕ) (t : Tables) → Pair n ms cs used (t .mrt) → Pair n ms (set cs p v) used (onDestroy cap a t (countIn a (t .mrt)) .mrt)
-    counted-down v o q n t P = go (eqb (getD cs p 0) cap) refl
+    counted-down v o M n t P = go (eqb (getD cs p 0) cap) refl
       where
         go : (d : Bool) → eqb (getD cs p 0) cap ≡ d → Pair n ms (set cs p v) used (onDestroy cap a t (countIn a (t .mrt)) .mrt)
         go true w =
             let g = pair-count in
-            rw (count-is P, destroy-cap cap a t (getD cs p 0) (omega arith) (eqb-true (getD cs p 0) cap w), q, w) (same-pair P)
+            let e = eqb-true (getD cs p 0) cap w in
+            rw (count-is P, destroy-cap cap a t (getD cs p 0) (omega arith) e, M .stays e) (same-pair P)
         go false w =
             let g = pair-count in
-            rw (count-is P, destroy-less cap a t (getD cs p 0) (g .0) (eqb-false (getD cs p 0) cap w) o, q, w) (set-pair P (getD cs p 0 - 1))
+            let e = eqb-false (getD cs p 0) cap w in
+            rw (count-is P, destroy-less cap a t (getD cs p 0) (g .0) e o, M .goes e) (set-pair P (getD cs p 0 - 1))
 
     pub counted-out : {xs ys : List ℕ} {r : ℕ} → getD cs p 0 ≡ 2 → r ≡ used - 1 → xs ≡ pad (length ms) (cut p (take used ms)) → ys ≡ pad (length cs) (cut p (take used cs))
         → (n : ℕ) (t : Tables) → Pair n ms cs used (t .mrt) → Pair n xs ys r (onDestroy cap a t (countIn a (t .mrt)) .mrt)

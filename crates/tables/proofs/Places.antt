@@ -1,6 +1,6 @@
 -- Entries of ascending lists at their places: the lists of `rules` in terms of put, cut and set. Assumes nothing.
 use mathlib.Core.Path.{_≡_, refl, sym, ap, _∙_}
-use mathlib.Core.Bool.{Bool, true, false, cond, false≢true, true≢false}
+use mathlib.Core.Bool.{Bool, true, false, _||_, false≢true, true≢false}
 use mathlib.Core.List.{List, [], _∷_}
 use Prim.Native.Nat.{ℕ, zero, suc, _+_, _≤_, _<_, zero-le, suc-le-suc}
 use native.Mathlib.Nat.{le-of-suc-le-suc, not-suc-le-zero, le-of-lt}
@@ -65,6 +65,15 @@ place-at p [] s h = absurd (not-suc-le-zero h)
 place-at zero (x ∷ z) s h = rw (le-ltb x x (omega arith))
 place-at (suc p) (x ∷ z) s h =
     rw (lt-ltb x (getD z p 0) (above-at x z p (s .0) (le-of-suc-le-suc h))) (ap suc (place-at p z (s .1) (le-of-suc-le-suc h)))
+
+pub has-at : (p : ℕ) (z : List ℕ) → p < length z → has (getD z p 0) z ≡ true
+has-at p [] h = absurd (not-suc-le-zero h)
+has-at zero (x ∷ z) h = rw (eq-eqb x x refl)
+has-at (suc p) (x ∷ z) h = go (eqb (getD z p 0) x) (has-at p z (le-of-suc-le-suc h))
+  where
+    go : (d : Bool) → has (getD z p 0) z ≡ true → (d || has (getD z p 0) z) ≡ true
+    go true e = refl
+    go false e = e
 
 module _ (row : List ℕ) (used : ℕ) (fits : used ≤ length row) (a : ℕ) where
   pub has-used : Ascending (take used row) → has a (take used row) ≡ true → (place a (take used row) < used) × (getD row (place a (take used row)) 0 ≡ a)

@@ -1,11 +1,11 @@
 -- One row that is a list: what the code reads of it, and the list after an entry or a deletion. Assumes nothing.
-use mathlib.Core.Path.{_≡_, refl, sym, ap, _∙_}
-use mathlib.Core.Bool.{Bool, true, false}
-use mathlib.Core.List.{List, [], _∷_, _++_}
+use mathlib.Core.Path.{_≡_, sym, ap, _∙_}
+use mathlib.Core.Bool.{true, false}
+use mathlib.Core.List.{List, [], _∷_}
 use Prim.Native.Nat.{ℕ, zero, suc, _+_, _-_, _≤_, _<_}
 use native.Mathlib.Nat.{le-of-suc-le-suc, not-suc-le-zero}
 use native.Mathlib.Omega.{arith}
-use lib.ListN.{length, take, drop, getD, set, replicate, length-append, length-set, length-replicate}
+use lib.ListN.{length, take, getD, set, replicate, length-append, length-set, length-replicate}
 use lib.Seq.{length-take-le, take-at, set-append-left}
 use Rattle.rules.specs.Table.{has, insert, remove, pad, All, Below, Ascending}
 use Rattle.rules.specs.Rows.{Is}

@@ -1,20 +1,22 @@
 -- From the rows of both tables to a transaction. Assumes nothing.
-use mathlib.Core.Path.{_≡_, refl, sym, ap, _∙_}
+use mathlib.Core.Path.{_≡_, refl, sym, _∙_}
 use mathlib.Core.Bool.{Bool, true, false, cond}
-use mathlib.Core.List.{List}
-use Prim.Native.Nat.{ℕ, zero, suc, _≤_, _<_}
+use mathlib.Core.List.{List, []}
+use Prim.Native.Nat.{ℕ, zero, suc, _-_, _≤_, _<_}
+use native.Mathlib.Nat.{sub-zero}
 use native.Mathlib.Omega.{arith}
-use lib.ListN.{length, take, getD}
+use lib.ListN.{length, take, getD, replicate, length-replicate}
+use lib.Seq.{getD-take}
 use lib.Dec.{eqb}
 use Rattle.rules.specs.declared.Used.{Used}
-use Rattle.rules.specs.Table.{has, insert, remove, countIn, addresses, counts}
+use Rattle.rules.specs.Table.{has, insert, remove, countIn, addresses, pad}
 use Rattle.rules.specs.Rules.{Tables, Transaction, allocates, creates, destroys, enterZct, leaveZct, enterMrt, leaveMrt, onCreate, onDestroy, apply}
-use Rattle.rules.specs.Rows.{Is, Are, Kept, Ready, Bounds}
+use Rattle.rules.specs.Rows.{Is, Kept, Ready, Bounds}
 use Rattle.rules.proofs.Invariant.{named}
-use Rattle.rules.proofs.Sorted.{insert-up, all-insert, apply-kept}
-use Rattle.tables.specs.Row.{place, Listed, Counted, Pair, Tabled}
-use Rattle.tables.proofs.Places.{count-none}
-use Rattle.tables.proofs.Single.{is-take, is-padded, is-listed}
+use Rattle.rules.proofs.Sorted.{insert-up, all-insert, leaveZct-kept, apply-kept}
+use Rattle.tables.specs.Row.{cut, Listed, Counted, Pair, Tabled}
+use Rattle.tables.proofs.Places.{place-at, has-at, remove-cut, count-none}
+use Rattle.tables.proofs.Single.{is-take, is-padded, is-listed, cut-is}
 use Rattle.tables.proofs.Pairs.{pair-count, count-is}
 
 -- rows that are tables over addresses below n, as the code wants them
@@ -43,6 +45,32 @@ module _ {n cap : ℕ} {zs ms cs : List ℕ} {u : Used} {t : Tables} (R : Ready 
   -- they are some tables
   pub tabled : Bounds n cap → Tabled (length zs) cap zs ms cs u
   tabled B = rw (R .are .zct-is .long) (record { bounds = B; tables = t; ready = R })
+
+-- rows of zeros are empty tables
+zero-row : (n : ℕ) → Is n (replicate n 0) 0 []
+zero-row n = record { long = length-replicate n 0; count = refl; padded = rw (sub-zero n) }
+
+pub fresh-ready : (n cap : ℕ) → Ready n cap (replicate n 0) (replicate n 0) (replicate n 0) (record { zct = 0; mrt = 0 }) (record { zct = []; mrt = [] })
+fresh-ready n cap = record {
+  are = record { zct-is = zero-row n; mrt-is = zero-row n; counts-is = zero-row n };
+  kept = record { zct-up = tt; zct-below = tt; mrt-up = tt; mrt-below = tt; mrt-counts = tt };
+}
+
+-- the entry at place p of ZCT is cut out
+pub left : {n cap p r : ℕ} {zs zs′ ms cs : List ℕ} {u : Used} {t : Tables} → 3 ≤ cap → Ready n cap zs ms cs u t → p < u .zct → r ≡ u .zct - 1
+    → zs′ ≡ pad (length zs) (cut p (take (u .zct) zs)) → Ready n cap zs′ ms cs (record { zct = r; mrt = u .mrt }) (leaveZct (getD zs p 0) t)
+unfolding leaveZct
+left {n} {cap} {p} {r} {zs} {u = u} {t = t} big R h l x =
+    let I = R .are .zct-is in
+    let k = I .count in
+    let w : p < length (t .zct) = omega arith in
+    let g : getD (t .zct) p 0 ≡ getD zs p 0 = rw (← is-take I) (getD-take (u .zct) zs p 0 h) in
+    let o : remove (getD zs p 0) (t .zct) ≡ cut p (t .zct) =
+    rw (← g) (remove-cut (getD (t .zct) p 0) (t .zct) (R .kept .zct-up) (has-at p (t .zct) w) ∙ rw (place-at p (t .zct) (R .kept .zct-up) w)) in
+    record {
+      are = record { zct-is = rw o (cut-is (is-padded I) I p h l x); mrt-is = R .are .mrt-is; counts-is = R .are .counts-is };
+      kept = leaveZct-kept n cap big t (R .kept) (getD zs p 0);
+    }
 
 -- an allocate
 pub allocated : {zs zs′ : List ℕ} {u : Used} {r : ℕ} (a : ℕ) → a < length zs → ((n : ℕ) (z : List ℕ) → Is n zs (u .zct) z → Is n zs′ r (insert a z))

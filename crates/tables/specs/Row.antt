@@ -1,9 +1,9 @@
 -- Rows as the code sees them: a place in a row, an entry put in or cut out there, and what the code requires. Assumes nothing.
-use Prim.Native.Nat.{ℕ, zero, suc, _+_, _-_, _≤_}
+use Prim.Native.Nat.{ℕ, zero, suc, _≤_}
 use mathlib.Core.Path.{_≡_}
 use mathlib.Core.Bool.{cond}
 use mathlib.Core.List.{List, [], _∷_, _++_}
-use lib.Dec.{ltb, eqb}
+use lib.Dec.{ltb}
 use lib.ListN.{length, take, drop}
 use Rattle.rules.specs.declared.Used.{Used}
 use Rattle.rules.specs.Table.{Entry, addresses, counts, pad, All, Below, Ascending}
@@ -23,12 +23,10 @@ put p x z = take p z ++ x ∷ drop p z
 abbrev pub cut : ℕ → List ℕ → List ℕ
 cut p z = take p z ++ drop (suc p) z
 
--- one more, and one less: a count at the cap stays there
-abbrev pub raised : ℕ → ℕ → ℕ
-raised cap c = cond (eqb c cap) c (c + 1)
-
-abbrev pub lowered : ℕ → ℕ → ℕ
-lowered cap c = cond (eqb c cap) c (c - 1)
+-- a count c is r afterwards: it stays where it is at the cap, and else is d
+pub record Moved (cap c d r : ℕ) : Type 0 where
+  pub stays : c ≡ cap → r ≡ c
+  pub goes : (c ≡ cap → ⊥) → r ≡ d
 
 -- the used part is within the row, and zeros come after it
 pub record Padded (row : List ℕ) (used : ℕ) : Type 0 where

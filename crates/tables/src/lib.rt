@@ -7,7 +7,7 @@ ghost use lib.ListN.{length, take, drop};
 ghost use Rattle.rules.specs.Table.{Ascending, has, pad, insert, remove, countIn};
 ghost use Rattle.rules.specs.Rules.{Tables, allocates, creates, destroys, onCreate, onDestroy, apply};
 ghost use Rattle.rules.specs.Rows.{Is, Ready};
-ghost use Rattle.tables.specs.Row.{place, put, cut, raised, lowered, Padded, Listed, Counted, Pair, Tabled};
+ghost use Rattle.tables.specs.Row.{place, put, cut, Moved, Padded, Listed, Counted, Pair, Tabled};
 use rules::Used;
 
 // The place of the first of row's used entries that is not below a.
@@ -116,7 +116,7 @@ pub fn leave(row: &mut [u32], used: usize, a: u32) -> usize
 // One more than c, which stays where it is at the cap.
 pub fn raise(cap: u32, c: u32) -> u32
     requires { ⌜ c ≤ cap ⌝ }
-    ensures { λ r. ⌜ r ≡ raised cap c ⌝ }
+    ensures { λ r. ⌜ Moved cap c (c + 1) r ⌝ }
 {
     if c == cap { c } else { c + 1 }
 }
@@ -124,7 +124,7 @@ pub fn raise(cap: u32, c: u32) -> u32
 // One less than c, which stays where it is at the cap.
 pub fn lower(cap: u32, c: u32) -> u32
     requires { ⌜ 1 ≤ c ⌝ }
-    ensures { λ r. ⌜ r ≡ lowered cap c ⌝ }
+    ensures { λ r. ⌜ Moved cap c (c - 1) r ⌝ }
 {
     if c == cap { c } else { c - 1 }
 }

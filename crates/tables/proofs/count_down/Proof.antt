@@ -2,9 +2,9 @@
 use borrow.Author.Needs.{needs}
 use Rattle.tables.proofs.count_down.Statement.{statement}
 use Rattle.tables.proofs.count_down.Tie as tie
-use Prim.Native.Nat.{_≤_, _<_}
+use Prim.Native.Nat.{_<_}
 use native.Mathlib.Omega.{arith}
-use lib.ListN.{length, getD}
+use lib.ListN.{length}
 use Rattle.tables.proofs.Pairs.{pair-used, pair-row, pair-count, counted-down, counted-out}
 
 -- where a stands, once found

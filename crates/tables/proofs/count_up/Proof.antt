@@ -6,7 +6,7 @@ use mathlib.Core.Path.{_≡_, sym, _∙_}
 use mathlib.Core.Bool.{true, false}
 use Prim.Native.Nat.{_≤_, _<_}
 use native.Mathlib.Omega.{arith}
-use lib.ListN.{length, getD, take}
+use lib.ListN.{length, take}
 use Rattle.rules.specs.Table.{has}
 use Rattle.tables.proofs.Single.{place-fits}
 use Rattle.tables.proofs.Pairs.{pair-row, pair-count, pair-room, counted-up, counted-in}

@@ -3,7 +3,7 @@ use borrow.Author.Needs.{needs}
 use Rattle.tables.proofs.enter.Statement.{statement}
 use Rattle.tables.proofs.enter.Tie as tie
 use mathlib.Core.Path.{_≡_, sym, _∙_}
-use mathlib.Core.Bool.{true, false}
+use mathlib.Core.Bool.{false}
 use lib.ListN.{take}
 use Rattle.rules.specs.Table.{has}
 use Rattle.tables.proofs.Single.{place-fits, enter-there, enter-room, enter-put}
