@@ -1,0 +1,5 @@
+pub mod Laws
+pub mod Places
+pub mod Single
+pub mod Pairs
+pub mod Steps

@@ -1,0 +1,159 @@
+-- From the rows of both tables to a transaction. Assumes nothing.
+use mathlib.Core.Path.{_≡_, refl, sym, _∙_}
+use mathlib.Core.Bool.{Bool, true, false, cond}
+use mathlib.Core.List.{List, []}
+use Prim.Native.Nat.{ℕ, zero, suc, _-_, _≤_, _<_}
+use native.Mathlib.Nat.{sub-zero}
+use native.Mathlib.Omega.{arith}
+use lib.ListN.{length, take, getD, replicate, length-replicate}
+use lib.Seq.{getD-take}
+use lib.Dec.{eqb}
+use Rattle.rules.specs.declared.Used.{Used}
+use Rattle.rules.specs.Table.{has, insert, remove, countIn, addresses, pad}
+use Rattle.rules.specs.Rules.{Tables, Transaction, allocates, creates, destroys, enterZct, leaveZct, enterMrt, leaveMrt, onCreate, onDestroy, apply}
+use Rattle.rules.specs.Rows.{Is, Kept, Ready, Bounds}
+use Rattle.rules.proofs.Invariant.{named}
+use Rattle.rules.proofs.Sorted.{insert-up, all-insert, leaveZct-kept, apply-kept}
+use Rattle.tables.specs.Row.{cut, Listed, Counted, Pair, Tabled}
+use Rattle.tables.proofs.Places.{place-at, has-at, remove-cut, count-none}
+use Rattle.tables.proofs.Single.{is-take, is-padded, is-listed, cut-is}
+use Rattle.tables.proofs.Pairs.{pair-count, count-is}
+
+-- rows that are tables over addresses below n, as the code wants them
+module _ {n cap : ℕ} {zs ms cs : List ℕ} {u : Used} {t : Tables} (R : Ready n cap zs ms cs u t) where
+  pub zct-listed : Listed zs (u .zct)
+  zct-listed = is-listed (R .are .zct-is) (R .kept .zct-up) (R .kept .zct-below)
+
+  pub mrt-counted : 3 ≤ cap → Counted cap ms cs (u .mrt)
+  mrt-counted big = record {
+    listed = is-listed (R .are .mrt-is) (R .kept .mrt-up) (R .kept .mrt-below);
+    beside = is-padded (R .are .counts-is);
+    long = R .are .counts-is .long ∙ sym (R .are .mrt-is .long);
+    within = rw (is-take (R .are .counts-is)) (R .kept .mrt-counts);
+    big = big;
+  }
+
+  pub mrt-pair : Pair n ms cs (u .mrt) (t .mrt)
+  mrt-pair = record { mrt-is = R .are .mrt-is; counts-is = R .are .counts-is }
+
+  pub zct-has : (a : ℕ) {b : Bool} → has a (take (u .zct) zs) ≡ b → has a (t .zct) ≡ b
+  zct-has a h = rw (is-take (R .are .zct-is)) at h
+
+  pub mrt-has : (a : ℕ) {b : Bool} → has a (take (u .mrt) ms) ≡ b → has a (addresses (t .mrt)) ≡ b
+  mrt-has a h = rw (is-take (R .are .mrt-is)) at h
+
+  -- they are some tables
+  pub tabled : Bounds n cap → Tabled (length zs) cap zs ms cs u
+  tabled B = rw (R .are .zct-is .long) (record { bounds = B; tables = t; ready = R })
+
+-- rows of zeros are empty tables
+zero-row : (n : ℕ) → Is n (replicate n 0) 0 []
+zero-row n = record { long = length-replicate n 0; count = refl; padded = rw (sub-zero n) }
+
+pub fresh-ready : (n cap : ℕ) → Ready n cap (replicate n 0) (replicate n 0) (replicate n 0) (record { zct = 0; mrt = 0 }) (record { zct = []; mrt = [] })
+fresh-ready n cap = record {
+  are = record { zct-is = zero-row n; mrt-is = zero-row n; counts-is = zero-row n };
+  kept = record { zct-up = tt; zct-below = tt; mrt-up = tt; mrt-below = tt; mrt-counts = tt };
+}
+
+-- the entry at place p of ZCT is cut out
+pub left : {n cap p r : ℕ} {zs zs′ ms cs : List ℕ} {u : Used} {t : Tables} → 3 ≤ cap → Ready n cap zs ms cs u t → p < u .zct → r ≡ u .zct - 1
+    → zs′ ≡ pad (length zs) (cut p (take (u .zct) zs)) → Ready n cap zs′ ms cs (record { zct = r; mrt = u .mrt }) (leaveZct (getD zs p 0) t)
+unfolding leaveZct
+left {n} {cap} {p} {r} {zs} {u = u} {t = t} big R h l x =
+    let I = R .are .zct-is in
+    let k = I .count in
+    let w : p < length (t .zct) = omega arith in
+    let g : getD (t .zct) p 0 ≡ getD zs p 0 = rw (← is-take I) (getD-take (u .zct) zs p 0 h) in
+    let o : remove (getD zs p 0) (t .zct) ≡ cut p (t .zct) =
+    rw (← g) (remove-cut (getD (t .zct) p 0) (t .zct) (R .kept .zct-up) (has-at p (t .zct) w) ∙ rw (place-at p (t .zct) (R .kept .zct-up) w)) in
+    record {
+      are = record { zct-is = rw o (cut-is (is-padded I) I p h l x); mrt-is = R .are .mrt-is; counts-is = R .are .counts-is };
+      kept = leaveZct-kept n cap big t (R .kept) (getD zs p 0);
+    }
+
+-- an allocate
+pub allocated : {zs zs′ : List ℕ} {u : Used} {r : ℕ} (a : ℕ) → a < length zs → ((n : ℕ) (z : List ℕ) → Is n zs (u .zct) z → Is n zs′ r (insert a z))
+    → (n cap : ℕ) (ms cs : List ℕ) (t : Tables) → Ready n cap zs ms cs u t → Ready n cap zs′ ms cs (record { zct = r; mrt = u .mrt }) (apply cap (allocates a) t)
+unfolding apply enterZct
+allocated a small f n cap ms cs t R = record {
+  are = record { zct-is = f n (t .zct) (R .are .zct-is); mrt-is = R .are .mrt-is; counts-is = R .are .counts-is };
+  kept = record {
+    zct-up = insert-up a (t .zct) (R .kept .zct-up);
+    zct-below = all-insert (λ y. y < n) a (t .zct) (rw (R .are .zct-is .long) at small) (R .kept .zct-below);
+    mrt-up = R .kept .mrt-up;
+    mrt-below = R .kept .mrt-below;
+    mrt-counts = R .kept .mrt-counts;
+  };
+}
+
+-- what a transaction on MRT leaves of ZCT
+create-zct : (cap a : ℕ) (t : Tables) (k : ℕ) → onCreate cap a t false k .zct ≡ t .zct
+unfolding onCreate enterMrt
+create-zct cap a t zero = refl
+create-zct cap a t (suc k) = go (eqb (suc k) cap)
+  where
+    go : (d : Bool) → cond d t (enterMrt a (suc (suc k)) t) .zct ≡ t .zct
+    go true = refl
+    go false = refl
+
+destroy-zct : (cap a : ℕ) (t : Tables) (k : ℕ) → 1 ≤ k → onDestroy cap a t k .zct ≡ t .zct
+unfolding onDestroy enterMrt leaveMrt
+destroy-zct cap a t zero h = absurd (omega arith)
+destroy-zct cap a t (suc k) h = go (eqb (suc k) cap) (eqb k 1)
+  where
+    go : (d e : Bool) → cond d t (cond e (leaveMrt a t) (enterMrt a k t)) .zct ≡ t .zct
+    go true e = refl
+    go false true = refl
+    go false false = refl
+
+-- a create and a destroy, of a below the rows' length
+module _ {cap : ℕ} {zs ms cs : List ℕ} {u : Used} (T : Tabled (length zs) cap zs ms cs u) (a : ℕ) (small : a < length zs) where
+  pub mrt-small : a < length ms
+  mrt-small = rw (T .ready .are .mrt-is .long) small
+
+  kept : (x : Transaction) {n : ℕ} {t : Tables} → named x ≡ a → Ready n cap zs ms cs u t → Kept n cap (apply cap x t)
+  kept x {n} {t} e R =
+      let l = R .are .zct-is .long in
+      apply-kept n cap (T .bounds .big) t (R .kept) x (omega arith)
+
+  pub created-zct : {zs′ : List ℕ} {r : ℕ} → has a (take (u .zct) zs) ≡ true → ((n : ℕ) (z : List ℕ) → Is n zs (u .zct) z → Is n zs′ r (remove a z))
+      → (n : ℕ) (t : Tables) → Ready n cap zs ms cs u t → Ready n cap zs′ ms cs (record { zct = r; mrt = u .mrt }) (apply cap (creates a) t)
+  unfolding apply onCreate leaveZct
+  created-zct h f n t R = record {
+    are = rw (zct-has R a h) (record { zct-is = f n (t .zct) (R .are .zct-is); mrt-is = R .are .mrt-is; counts-is = R .are .counts-is });
+    kept = kept (creates a) refl R;
+  }
+
+  pub created-mrt : {ms′ cs′ : List ℕ} {r : ℕ} → has a (take (u .zct) zs) ≡ false
+      → ((n : ℕ) (t : Tables) → Pair n ms cs (u .mrt) (t .mrt) → Pair n ms′ cs′ r (onCreate cap a t false (countIn a (t .mrt)) .mrt))
+      → (n : ℕ) (t : Tables) → Ready n cap zs ms cs u t → Ready n cap zs ms′ cs′ (record { zct = u .zct; mrt = r }) (apply cap (creates a) t)
+  unfolding apply
+  created-mrt h f n t R =
+      let P = f n t (mrt-pair R) in
+      record {
+        are = rw (zct-has R a h) (record { zct-is = rw (create-zct cap a t (countIn a (t .mrt))) (R .are .zct-is); mrt-is = P .mrt-is; counts-is = P .counts-is });
+        kept = kept (creates a) refl R;
+      }
+
+  pub destroyed-zct : {zs′ : List ℕ} {r : ℕ} → has a (take (u .mrt) ms) ≡ false → ((n : ℕ) (z : List ℕ) → Is n zs (u .zct) z → Is n zs′ r (insert a z))
+      → (n : ℕ) (t : Tables) → Ready n cap zs ms cs u t → Ready n cap zs′ ms cs (record { zct = r; mrt = u .mrt }) (apply cap (destroys a) t)
+  unfolding apply onDestroy enterZct
+  destroyed-zct h f n t R = record {
+    are = rw (count-none a (t .mrt) (mrt-has R a h)) (record { zct-is = f n (t .zct) (R .are .zct-is); mrt-is = R .are .mrt-is; counts-is = R .are .counts-is });
+    kept = kept (destroys a) refl R;
+  }
+
+  pub destroyed-mrt : {ms′ cs′ : List ℕ} {r : ℕ} → has a (take (u .mrt) ms) ≡ true
+      → ((n : ℕ) (t : Tables) → Pair n ms cs (u .mrt) (t .mrt) → Pair n ms′ cs′ r (onDestroy cap a t (countIn a (t .mrt)) .mrt))
+      → (n : ℕ) (t : Tables) → Ready n cap zs ms cs u t → Ready n cap zs ms′ cs′ (record { zct = u .zct; mrt = r }) (apply cap (destroys a) t)
+  unfolding apply
+  destroyed-mrt h f n t R =
+      let P = f n t (mrt-pair R) in
+      let C = mrt-counted R (T .bounds .big) in
+      let c = pair-count C a _ refl h in
+      let e = count-is C a _ refl h (mrt-pair R) in
+      record {
+        are = record { zct-is = rw (destroy-zct cap a t (countIn a (t .mrt)) (omega arith)) (R .are .zct-is); mrt-is = P .mrt-is; counts-is = P .counts-is };
+        kept = kept (destroys a) refl R;
+      }
