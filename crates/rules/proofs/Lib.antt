@@ -3,7 +3,6 @@ pub mod Invariant
 pub mod Tests
 pub mod Worthless
 pub mod Demand1
-pub mod Cases
 pub mod Fine
 pub mod Roundtrip
 pub mod Tables

@@ -15,3 +15,4 @@ pub mod Run
 pub mod Demands
 pub mod Worthless
 pub mod Cases
+pub mod Worked
