@@ -168,22 +168,3 @@ table =
     -- P11 new 0, read 0 0, follow 0 0 1, same 0 1: statuses 0, 13, 12, 11
     ∷ case 4 (New 0 ∷ Read 0 0 ∷ Follow 0 0 1 ∷ Same 0 1 ∷ []) (statuses (0 ∷ 13 ∷ 12 ∷ 11 ∷ []) ∷ [])
     ∷ []
-
--- 'Errors that look right': what each of them would get wrong
-unfoldable pub lookRight : List Case
-lookRight =
-    -- freeing a cell when its count falls to none, without looking at the variables: variable 1 still holds cell 1
-    case 4 (New 0 ∷ New 1 ∷ Link 0 0 1 ∷ Blank 0 0 ∷ Settle ∷ []) (frees 4 0 ∷ zct (0 ∷ 1 ∷ []) ∷ [])
-    -- logging the create before the destroy when a field is overwritten: the count must not touch the cap
-    ∷ case 4 (p5 ++ (Link 0 0 1 ∷ Settle ∷ [])) (zct (0 ∷ []) ∷ mrt (1 ∷ []) (2 ∷ []) ∷ [])
-    -- lowering a count from the cap, or dropping it at the cap: two of three pointers to cell 1 go
-    ∷ case 4 (New 0 ∷ New 1 ∷ Link 0 0 1 ∷ Link 0 1 1 ∷ Link 1 0 1 ∷ Blank 0 0 ∷ Blank 0 1 ∷ []) (zct (0 ∷ []) ∷ mrt (1 ∷ []) (3 ∷ []) ∷ [])
-    -- entering a second pointer in MRT with 1
-    ∷ case 4 p5 (mrt (1 ∷ []) (2 ∷ []) ∷ [])
-    -- forgetting that cells reclaimed in the loop bring new cells into ZCT
-    ∷ case 4 (New 0 ∷ New 1 ∷ Link 0 0 1 ∷ Clear 0 ∷ Clear 1 ∷ Settle ∷ []) (frees 5 2 ∷ zct [] ∷ freeList (1 ∷ 0 ∷ 2 ∷ 3 ∷ []) ∷ [])
-    -- handing out a cell with its old figures in it
-    ∷ case 1 (New 0 ∷ Put 0 0 (pos 7) ∷ Put 0 1 (pos 8) ∷ Clear 0 ∷ New 0 ∷ Read 0 0 ∷ Read 0 1 ∷ []) (statuses (0 ∷ 0 ∷ 0 ∷ 0 ∷ 0 ∷ 13 ∷ 13 ∷ []) ∷ total 1 ∷ [])
-    -- keeping insertion order in a table: cell 1 comes into ZCT after cells 0 and 2
-    ∷ case 4 (New 0 ∷ New 1 ∷ Link 0 0 1 ∷ New 2 ∷ Settle ∷ Blank 0 0 ∷ []) (zct (0 ∷ 1 ∷ 2 ∷ []) ∷ [])
-    ∷ []

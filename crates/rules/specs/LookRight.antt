@@ -1,0 +1,58 @@
+-- 'Errors that look right': a case that each of them gets wrong. Assumes nothing.
+use Prim.Native.Nat.{ℕ}
+use mathlib.Core.Path.{_≡_, refl}
+use mathlib.Core.List.{List, [], _∷_, _++_}
+use lib.IntN.{ℤ, pos}
+use Rattle.rules.specs.declared.Field.{Field}
+use Rattle.rules.specs.declared.Field.the-variants.{Nothing, Free}
+use Rattle.rules.specs.declared.Call.{Call}
+use Rattle.rules.specs.declared.Call.the-variants.{New, Clear, Link, Put, Blank, Read, Settle}
+use Rattle.rules.specs.Head.{Sizes}
+use Rattle.rules.specs.Table.{entry}
+use Rattle.rules.specs.Rules as U
+use Rattle.rules.specs.Settle as S
+use Rattle.rules.specs.Call as C
+use Rattle.rules.specs.Step as P
+
+-- n cells, m 3, L 4, cap 3
+abbrev sizes : ℕ → Sizes
+sizes n = record { n = n; m = 3; l = 4; cap = 3 }
+
+-- a batch on a fresh heap of n cells
+abbrev ends : ℕ → List Call → P.Result
+ends n cs = P.batch (sizes n) cs (P.fresh (sizes n))
+
+-- two pointers to cell 1
+abbrev two : List Call
+two = New 0 ∷ New 1 ∷ Link 0 0 1 ∷ Link 0 1 1 ∷ Settle ∷ []
+
+pub record LooksRight : Type 0 where
+  -- freeing a cell when its count falls to none, without looking at the variables: variable 1 still holds cell 1
+  pub held-cells-stay : ends 4 (New 0 ∷ New 1 ∷ Link 0 0 1 ∷ Blank 0 0 ∷ []) .heap .tables .zct ≡ 0 ∷ 1 ∷ []
+  -- logging the create before the destroy when a field is overwritten: a count can then touch the cap and stick
+  pub destroyed-then-created : ends 4 (two ++ (Link 0 0 1 ∷ [])) .heap .tables .mrt ≡ entry 1 2 ∷ []
+  -- lowering a count from the cap, or dropping it at the cap: of three pointers to cell 1 two go
+  pub cap-stays : ends 4 (two ++ (Link 1 0 1 ∷ Settle ∷ Blank 0 0 ∷ Blank 0 1 ∷ [])) .heap .tables .mrt ≡ entry 1 3 ∷ []
+  -- entering a second pointer in MRT with 1
+  pub second-pointer-is-two : ends 4 two .heap .tables .mrt ≡ entry 1 2 ∷ []
+  -- forgetting that cells reclaimed in the loop bring new cells into ZCT: cell 0 takes cell 1 with it
+  pub freeing-goes-on : ends 4 (New 0 ∷ New 1 ∷ Link 0 0 1 ∷ Clear 0 ∷ Clear 1 ∷ []) .heap .freed ≡ 2
+  -- handing out a cell with its old figures in it
+  pub new-cells-are-blank : ends 1 (New 0 ∷ Put 0 1 (pos 7) ∷ Clear 0 ∷ New 0 ∷ []) .heap .shape .fields ≡ Nothing ∷ Nothing ∷ []
+  pub freed-cells-are-blank : ends 1 (New 0 ∷ Put 0 1 (pos 7) ∷ Clear 0 ∷ []) .heap .shape .fields ≡ Free 1 ∷ Nothing ∷ []
+  -- keeping insertion order in a table: cell 1 comes into ZCT after cells 0 and 2
+  pub tables-ascend : ends 4 (New 0 ∷ New 1 ∷ Link 0 0 1 ∷ New 2 ∷ Settle ∷ Blank 0 0 ∷ []) .heap .tables .zct ≡ 0 ∷ 1 ∷ 2 ∷ []
+
+pub look-right : LooksRight
+unfolding C.callOf C.callsOf C.callsIn U.enterZct U.leaveZct U.enterMrt U.leaveMrt U.onCreate U.onDestroy U.apply U.replay S.place S.field S.store S.drops S.freeCell S.reclaim S.replayed S.settledBy S.settled C.var C.at C.isHeld C.isCell C.isFigure C.want C.orElse C.check C.makes C.logs C.write C.hold C.toCell C.target C.act C.figureOf C.sameCell C.value P.settledIf P.full P.noneFree P.after P.takeCell P.doNew P.doSettle P.doCall P.room P.run P.step P.calls P.batch P.freeFrom P.fresh
+look-right =
+    record {
+      held-cells-stay = refl;
+      destroyed-then-created = refl;
+      cap-stays = refl;
+      second-pointer-is-two = refl;
+      freeing-goes-on = refl;
+      new-cells-are-blank = refl;
+      freed-cells-are-blank = refl;
+      tables-ascend = refl;
+    }
