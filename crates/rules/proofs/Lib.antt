@@ -1,3 +1,4 @@
+pub mod LookRight
 pub mod Answers
 pub mod Invariant
 pub mod Tests

@@ -1,6 +1,6 @@
 -- 'Errors that look right': a case that each of them gets wrong. Assumes nothing.
 use Prim.Native.Nat.{ℕ}
-use mathlib.Core.Path.{_≡_, refl}
+use mathlib.Core.Path.{_≡_}
 use mathlib.Core.List.{List, [], _∷_, _++_}
 use lib.IntN.{ℤ, pos}
 use Rattle.rules.specs.declared.Field.{Field}
@@ -9,9 +9,6 @@ use Rattle.rules.specs.declared.Call.{Call}
 use Rattle.rules.specs.declared.Call.the-variants.{New, Clear, Link, Put, Blank, Read, Settle}
 use Rattle.rules.specs.Head.{Sizes}
 use Rattle.rules.specs.Table.{entry}
-use Rattle.rules.specs.Rules as U
-use Rattle.rules.specs.Settle as S
-use Rattle.rules.specs.Call as C
 use Rattle.rules.specs.Step as P
 
 -- n cells, m 3, L 4, cap 3
@@ -42,17 +39,3 @@ pub record LooksRight : Type 0 where
   pub freed-cells-are-blank : ends 1 (New 0 ∷ Put 0 1 (pos 7) ∷ Clear 0 ∷ []) .heap .shape .fields ≡ Free 1 ∷ Nothing ∷ []
   -- keeping insertion order in a table: cell 1 comes into ZCT after cells 0 and 2
   pub tables-ascend : ends 4 (New 0 ∷ New 1 ∷ Link 0 0 1 ∷ New 2 ∷ Settle ∷ Blank 0 0 ∷ []) .heap .tables .zct ≡ 0 ∷ 1 ∷ 2 ∷ []
-
-pub look-right : LooksRight
-unfolding C.callOf C.callsOf C.callsIn U.enterZct U.leaveZct U.enterMrt U.leaveMrt U.onCreate U.onDestroy U.apply U.replay S.place S.field S.store S.drops S.freeCell S.reclaim S.replayed S.settledBy S.settled C.var C.at C.isHeld C.isCell C.isFigure C.want C.orElse C.check C.makes C.logs C.write C.hold C.toCell C.target C.act C.figureOf C.sameCell C.value P.settledIf P.full P.noneFree P.after P.takeCell P.doNew P.doSettle P.doCall P.room P.run P.step P.calls P.batch P.freeFrom P.fresh
-look-right =
-    record {
-      held-cells-stay = refl;
-      destroyed-then-created = refl;
-      cap-stays = refl;
-      second-pointer-is-two = refl;
-      freeing-goes-on = refl;
-      new-cells-are-blank = refl;
-      freed-cells-are-blank = refl;
-      tables-ascend = refl;
-    }
