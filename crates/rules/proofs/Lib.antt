@@ -1,4 +1,4 @@
-pub mod LookRight
+pub mod Against
 pub mod Answers
 pub mod Invariant
 pub mod Tests

@@ -6,7 +6,7 @@ pub mod Rules
 pub mod Settle
 pub mod Call
 pub mod Step
-pub mod LookRight
+pub mod Against
 pub mod Rows
 pub mod Endless
 pub mod Sound

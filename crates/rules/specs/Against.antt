@@ -1,4 +1,4 @@
--- 'Errors that look right': a case that each of them gets wrong. Assumes nothing.
+-- Cases against the errors that look right: each of them gets one wrong. Assumes nothing.
 use Prim.Native.Nat.{ℕ}
 use mathlib.Core.Path.{_≡_}
 use mathlib.Core.List.{List, [], _∷_, _++_}
