@@ -1,0 +1,255 @@
+#!/usr/bin/env python3
+"""Document 01 as a plain program, written from the paper alone: it gives the expected output of crates/cases.
+
+    tests/model.py < crates/cases/stdin      prints what crates/cases/stdout holds
+
+A line of input is one of
+    # text                       printed as it is
+    h n m l cap free zct mrt     the head
+    r k v x z m c l w            lengths of the eight rows (kinds values variables zct mrt counts log work), all elements 0
+    s ROW PLACE VALUE            one element; ROW is 0 to 7 in the order of r
+    c WORDS..                    the calls row, at most 16 words a line; a line 'c' alone empties it, 'c+' adds to it
+    a LENGTH                     an answers row of that length, every word -7
+    F  A  B                      fresh (from the head's first four numbers), audit, batch
+"""
+import sys
+
+NAMES = ["kinds", "values", "variables", "zct", "mrt", "counts", "log", "work"]
+N, M, L, CAP, FREE, ZCT, MRT = range(7)
+
+
+def limits(h):
+    n, m, l, cap, free, zct, mrt = h
+    return (1 <= n <= 1024 and 1 <= m <= 64 and 2 <= l <= 1024 and 3 <= cap <= 255
+            and free <= n and zct <= n and mrt <= n)
+
+
+def sized(h, rows):
+    n, m, l = h[N], h[M], h[L]
+    return limits(h) and [len(r) for r in rows] == [2 * n, 2 * n, m, n, n, n, 2 * l, n]
+
+
+def sound(h, rows):
+    n, m, l, cap, free, nz, nm = h
+    kinds, values, variables, zct, mrt, counts, log, _ = rows
+    is_free = lambda a: kinds[2 * a] == 3
+    used = lambda a: 0 <= a < n and not is_free(a)
+    for a in range(n):
+        for f in (0, 1):
+            k, v = kinds[2 * a + f], values[2 * a + f]
+            if k == 0 and v != 0 or k > 3 or k == 2 and not used(v):
+                return False
+            if k == 3 and (f == 1 or not 0 <= v <= n or kinds[2 * a + 1] != 0):
+                return False
+    if any(v != -1 and not used(v) for v in variables):
+        return False
+    for row, end in ((zct, nz), (mrt, nm)):
+        part = row[:end]
+        if any(x >= y for x, y in zip(part, part[1:])) or any(not used(a) for a in part) or any(row[end:]):
+            return False
+    if any(counts[nm:]) or any(log):
+        return False
+    met, a = [], free
+    while a != n:
+        if not 0 <= a < n or not is_free(a) or a in met:
+            return False
+        met.append(a)
+        a = values[2 * a]
+    if sorted(met) != [a for a in range(n) if is_free(a)]:
+        return False
+    pointers = [sum(1 for i in range(2 * n) if kinds[i] == 2 and values[i] == a) for a in range(n)]
+    zs, ms = zct[:nz], mrt[:nm]
+    if set(zs) & set(ms):
+        return False
+    for a in range(n):
+        if used(a) and a not in zs and a not in ms and pointers[a] != 1:
+            return False
+    if any(pointers[a] != 0 or a not in variables for a in zs):
+        return False
+    return all(2 <= c <= cap and (c == cap or c == pointers[a]) for a, c in zip(ms, counts))
+
+
+# operation: how its words are used, by letters v variable, f field, x figure
+SHAPES = {1: "v", 2: "vv", 3: "v", 4: "vfv", 5: "vfx", 6: "vf", 7: "vfv", 8: "vf", 9: "vv", 10: ""}
+
+
+def calls_right(words, m):
+    if len(words) % 4 or len(words) > 1024:
+        return False
+    for i in range(0, len(words), 4):
+        op, args = words[i], words[i + 1:i + 4]
+        if op not in SHAPES:
+            return False
+        for kind, w in zip(SHAPES[op].ljust(3, "0"), args):
+            if kind == "v" and not 0 <= w < m or kind == "f" and w not in (0, 1) or kind == "0" and w != 0:
+                return False
+    return True
+
+
+class Heap:
+    def __init__(self, h, rows):
+        self.n, self.m, self.l, self.cap, self.free = h[N], h[M], h[L], h[CAP], h[FREE]
+        self.kinds, self.values, self.variables = list(rows[0]), list(rows[1]), list(rows[2])
+        self.zct = set(rows[3][:h[ZCT]])
+        self.mrt = dict(zip(rows[4][:h[MRT]], rows[5][:h[MRT]]))
+        self.log, self.freed = [], 0
+
+    def apply(self, kind, a):
+        if kind == 1:
+            self.zct.add(a)
+        elif kind == 2:
+            if a in self.zct:
+                self.zct.remove(a)
+            elif a in self.mrt:
+                self.mrt[a] += self.mrt[a] != self.cap
+            else:
+                self.mrt[a] = 2
+        elif a in self.mrt:
+            if self.mrt[a] == 2:
+                del self.mrt[a]
+            elif self.mrt[a] != self.cap:
+                self.mrt[a] -= 1
+        else:
+            self.zct.add(a)
+
+    def settle(self):
+        before = self.freed
+        for kind, a in self.log:
+            self.apply(kind, a)
+        self.log = []
+        while True:
+            loose = [a for a in self.zct if a not in self.variables]
+            if not loose:
+                return self.freed - before
+            a = min(loose)
+            self.zct.remove(a)
+            for i in (2 * a, 2 * a + 1):
+                if self.kinds[i] == 2:
+                    self.apply(3, self.values[i])
+            self.kinds[2 * a], self.values[2 * a] = 3, self.free
+            self.kinds[2 * a + 1], self.values[2 * a + 1] = 0, 0
+            self.free = a
+            self.freed += 1
+
+    def call(self, op, a, b, c):
+        var = self.variables
+        if op in (4, 5, 6, 7, 8) and var[a] == -1 or op == 4 and var[c] == -1 or op == 9 and -1 in (var[a], var[b]):
+            return 11, 0
+        i = 2 * var[a] + b if op in (4, 5, 6, 7, 8) else 0
+        if op == 7 and self.kinds[i] != 2:
+            return 12, 0
+        if op == 8 and self.kinds[i] != 1:
+            return 13, 0
+        need = 1 if op == 1 else (op == 4) + (op in (4, 5, 6) and self.kinds[i] == 2)
+        if len(self.log) + need > self.l or op == 1 and self.free == self.n:
+            self.settle()
+        if op == 1:
+            if self.free == self.n:
+                return 14, 0
+            cell = self.free
+            self.free = self.values[2 * cell]
+            self.kinds[2 * cell], self.values[2 * cell] = 0, 0
+            var[a] = cell
+            self.log.append((1, cell))
+        elif op == 2:
+            var[a] = var[b]
+        elif op == 3:
+            var[a] = -1
+        elif op in (4, 5, 6):
+            if self.kinds[i] == 2:
+                self.log.append((3, self.values[i]))
+            if op == 4:
+                self.log.append((2, var[c]))
+            self.kinds[i], self.values[i] = (2, var[c]) if op == 4 else (1, c) if op == 5 else (0, 0)
+        elif op == 7:
+            var[c] = self.values[i]
+        elif op == 8:
+            return 0, self.values[i]
+        elif op == 9:
+            return 0, int(var[a] == var[b])
+        elif op == 10:
+            return 0, self.settle()
+        return 0, 0
+
+    def written(self):
+        pad = lambda z: z + [0] * (self.n - len(z))
+        ms = sorted(self.mrt)
+        rows = [self.kinds, self.values, self.variables, pad(sorted(self.zct)), pad(ms), pad([self.mrt[a] for a in ms]),
+                [0] * (2 * self.l), [0] * self.n]
+        return [self.n, self.m, self.l, self.cap, self.free, len(self.zct), len(self.mrt)], rows
+
+
+def fresh(h, rows):
+    head = h[:4] + [0, 0, 0]
+    if not sized(head, rows):
+        return 1, [0] * 7, 0, rows
+    n, m, l = head[:3]
+    values = [a // 2 + 1 if a % 2 == 0 else 0 for a in range(2 * n)]
+    return 0, head, 0, [[3, 0] * n, values, [-1] * m, [0] * n, [0] * n, [0] * n, [0] * (2 * l), [0] * n]
+
+
+def audit(h, rows):
+    if not sized(h, rows):
+        return 1, h, 0, rows
+    return 0 if sound(h, rows) else 4, h, 0, rows[:7] + [[0] * h[N]]
+
+
+def batch(h, rows, words, answers):
+    if not sized(h, rows):
+        return 1, h, 0, rows, answers
+    if not calls_right(words, h[M]):
+        return 2, h, 0, rows, answers
+    if len(answers) < len(words) // 2:
+        return 3, h, 0, rows, answers
+    if not sound(h, rows):
+        return 4, h, 0, rows[:7] + [[0] * h[N]], answers
+    heap, said = Heap(h, rows), []
+    for i in range(0, len(words), 4):
+        said += heap.call(*words[i:i + 4])
+    heap.settle()
+    head, rows = heap.written()
+    return 0, head, heap.freed, rows, said + answers[len(said):]
+
+
+def show(status, head, count, rows, answers=None):
+    print("status", status, "count", count, "head", *head)
+    for name, row in zip(NAMES, rows):
+        print(name, *row)
+    if answers is not None:
+        print("answers", *answers)
+
+
+def main():
+    h, rows, words, answers = [0] * 7, [[] for _ in range(8)], [], []
+    for line in sys.stdin.read().split("\n"):
+        if not line:
+            continue
+        if line[0] == "#":
+            print(line)
+            continue
+        what, *rest = line.split(" ")
+        num = [int(x) for x in rest]
+        if what == "h":
+            h = num
+        elif what == "r":
+            rows = [[0] * k for k in num]
+        elif what == "s":
+            rows[num[0]][num[1]] = num[2]
+        elif what == "c":
+            words = num
+        elif what == "c+":
+            words = words + num
+        elif what == "a":
+            answers = [-7] * num[0]
+        elif what == "F":
+            status, h, count, rows = fresh(h, rows)
+            show(status, h, count, rows)
+        elif what == "A":
+            status, h, count, rows = audit(h, rows)
+            show(status, h, count, rows)
+        elif what == "B":
+            status, h, count, rows, answers = batch(h, rows, words, answers)
+            show(status, h, count, rows, answers)
+
+
+main()
