@@ -1,4 +1,4 @@
--- Document 01 as definitions, in its order: read these beside it.
+-- Document 01 as definitions, in its order: read these beside it. After Run: the letter, and what shows that its statements have teeth.
 pub mod Head
 pub mod Field
 pub mod Table
@@ -6,14 +6,14 @@ pub mod Rules
 pub mod Settle
 pub mod Call
 pub mod Step
-pub mod Against
 pub mod Rows
-pub mod Endless
 pub mod Sound
 pub mod Decide
 pub mod Refusals
+pub mod Endless
 pub mod Run
 pub mod Demands
 pub mod Worthless
 pub mod Cases
 pub mod Worked
+pub mod Against
