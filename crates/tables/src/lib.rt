@@ -123,7 +123,7 @@ pub fn raise(cap: u32, c: u32) -> u32
 
 // One less than c, which stays where it is at the cap.
 pub fn lower(cap: u32, c: u32) -> u32
-    requires { ⌜ 1 ≤ c ⌝ }
+    requires { ⌜ (1 ≤ c) × (c ≤ cap) ⌝ }
     ensures { λ r. ⌜ Moved cap c (c - 1) r ⌝ }
 {
     if c == cap { c } else { c - 1 }

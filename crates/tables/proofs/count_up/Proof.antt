@@ -74,7 +74,7 @@ put-at-requires c κs = let s = start (c .before .before) in
 put-at-requires-2 : tie.Need-put-at-requires-2
 put-at-requires-2 c κs = let e = c .before .before .before .before .before in
     let s = start (e .before) in
-    (s .pre .0 .beside, (place-at e, room-at e .1))
+    (s .pre .0 .beside, (omega (arith, place-at e), room-at e .1))
 
 same-length-3 : tie.Need-same-length-3
 same-length-3 c = search needs
