@@ -246,10 +246,10 @@ pub fn fresh_cells(kinds: &mut [u8], values: &mut [i32], n: usize)
 pub fn fill_nothing(variables: &mut [i32])
     ensures { λ _. ⌜ now (variables .exit) ≡ replicate (length (now (variables .entry))) (negsuc 0) ⌝ }
 {
-    let mut v = 0;
-    while v < variables.len() {
-        variables[v] = -1;
-        v += 1;
+    let mut i = 0;
+    while i < variables.len() {
+        variables[i] = -1;
+        i += 1;
     }
 }
 

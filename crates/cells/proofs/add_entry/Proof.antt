@@ -1,3 +1,5 @@
+use native.Mathlib.Omega.{arith}
+use lib.ListN.{length-set}
 use Rattle.cells.proofs.Logging.{logged-more}
 use mathlib.Core.Path.{refl}
 use borrow.Author.Needs.{needs}
@@ -36,7 +38,7 @@ mul-log-4 c = search needs
 
 -- src/lib.rt:140:5
 slice-write-log-2 : tie.Need-slice-write-log-2
-slice-write-log-2 c = search needs
+slice-write-log-2 c = simp length-set (omega arith)
 
 -- src/lib.rt:141:5
 add-result : tie.Need-add-result

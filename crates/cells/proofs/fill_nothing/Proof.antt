@@ -12,10 +12,10 @@ use Rattle.cells.proofs.fill_nothing.Reads as reads
 use Rattle.cells.proofs.fill_nothing.Lts as lts
 
 abbrev Inv-loop : tie.InvT-loop
-Inv-loop variables₀ v₀ variables v = (v ≤ length variables₀) × ((length variables ≡ length variables₀) × (variables ≡ replicate v (negsuc 0) ++ drop v variables₀))
+Inv-loop variables₀ i₀ variables i = (i ≤ length variables₀) × ((length variables ≡ length variables₀) × (variables ≡ replicate i (negsuc 0) ++ drop i variables₀))
 
 abbrev μ-loop : tie.MeasureT-loop
-μ-loop variables₀ v₀ variables v = length variables₀ - v
+μ-loop variables₀ i₀ variables i = length variables₀ - i
 
 -- src/lib.rt:250:5
 loop-holds : tie.Need-loop-holds Inv-loop μ-loop
@@ -30,8 +30,8 @@ slice-set-of-variables : tie.Need-slice-set-of-variables Inv-loop μ-loop
 slice-set-of-variables c = search needs
 
 -- src/lib.rt:252:9
-add-v : tie.Need-add-v Inv-loop μ-loop
-add-v c = search needs
+add-i : tie.Need-add-i Inv-loop μ-loop
+add-i c = search needs
 
 -- src/lib.rt:250:5
 loop-less : tie.Need-loop-less Inv-loop μ-loop
@@ -67,7 +67,7 @@ fill-nothing-spec =
     loop-holds
     mul-variables
     slice-set-of-variables
-    add-v
+    add-i
     loop-less
     loop-again
     same-length
