@@ -2,15 +2,15 @@
 ghost use mathlib.Core.Path.{_≡_};
 ghost use mathlib.Core.List.{List, [], _∷_, _++_, map};
 ghost use mathlib.Core.Option.{Option};
-ghost use Prim.Native.Nat.{ℕ, _+_, _*_, _-_, _<_, _≤_};
+ghost use Prim.Native.Nat.{ℕ, _+_, _*_, _<_, _≤_};
 ghost use lib.ListN.{length, getD, set, replicate};
-ghost use lib.IntN.{ℤ, pos, negsuc};
+ghost use lib.IntN.{pos, negsuc};
 ghost use Rattle.rules.specs.declared.Field.{Field};
 ghost use Rattle.rules.specs.declared.Field.the-variants.{Nothing, Free};
 ghost use Rattle.rules.specs.Field.{addressOf, fieldOf, kindOf, valueOf, variableOf};
 ghost use Rattle.rules.specs.Head.{Sizes};
 ghost use Rattle.rules.specs.Rules.{Transaction};
-ghost use Rattle.rules.specs.Settle.{place, field, store, drops};
+ghost use Rattle.rules.specs.Settle.{store, drops};
 ghost use Rattle.rules.specs.Step.{after, freeFrom, fresh};
 ghost use Rattle.rules.specs.Rows.{lent, rowsOf, Inside, Cells, Logged};
 ghost use Rattle.cells.specs.Leaves.{heldAs};
