@@ -134,7 +134,8 @@ pub fn clear(row: &mut [u32])
 pub fn add_entry(log: &mut [u32], len: usize, kind: u32, a: usize) -> usize
     requires { ⌜ (2 * len + 1 < length (now log)) × (a < 2048) ⌝ }
     requires { ⌜ (1 ≤ kind) × (kind ≤ 3) ⌝ }
-    ensures { λ r. ⌜ ((n : ℕ) (xs : List Transaction) → Logged n (now (log .entry)) len xs → a < n → Logged n (now (log .exit)) r (xs ++ (transaction kind a ∷ []))) ⌝ }
+    ensures count { λ r. ⌜ r ≡ len + 1 ⌝ }
+    ensures logged { λ r. ⌜ ((n : ℕ) (xs : List Transaction) → Logged n (now (log .entry)) len xs → a < n → Logged n (now (log .exit)) r (xs ++ (transaction kind a ∷ []))) ⌝ }
 {
     log[2 * len] = kind;
     log[2 * len + 1] = a as u32;
@@ -145,7 +146,8 @@ pub fn add_entry(log: &mut [u32], len: usize, kind: u32, a: usize) -> usize
 pub fn log_old(log: &mut [u32], len: usize, old: Field) -> usize
     requires { ⌜ 2 * (len + length (drops old)) ≤ length (now log) ⌝ }
     requires { ⌜ Inside 1024 old ⌝ }
-    ensures { λ r. ⌜ ((n : ℕ) (xs : List Transaction) → Logged n (now (log .entry)) len xs → Inside n old → Logged n (now (log .exit)) r (xs ++ drops old)) ⌝ }
+    ensures count { λ r. ⌜ r ≡ len + length (drops old) ⌝ }
+    ensures logged { λ r. ⌜ ((n : ℕ) (xs : List Transaction) → Logged n (now (log .entry)) len xs → Inside n old → Logged n (now (log .exit)) r (xs ++ drops old)) ⌝ }
 {
     match old {
         Field::Nothing => len,

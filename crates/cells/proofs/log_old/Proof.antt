@@ -30,11 +30,11 @@ enum-told-3 c = search needs
 
 returns : tie.Need-returns
 unfolding drops
-returns c = λ n xs L I. rw (c .enum-told .given .1) (logged-same L)
+returns c = rw (c .enum-told .given .1) (omega arith, λ n xs L I. logged-same L)
 
 returns-2 : tie.Need-returns-2
 unfolding drops
-returns-2 c = λ n xs L I. rw (c .enum-told2 .given .1) (logged-same L)
+returns-2 c = rw (c .enum-told2 .given .1) (omega arith, λ n xs L I. logged-same L)
 
 same-length : tie.Need-same-length
 same-length c = search needs
@@ -42,13 +42,13 @@ same-length c = search needs
 returns-3 : tie.Need-returns-3
 unfolding drops transaction
 returns-3 c =
-    λ n xs L I.
     let e = c .before .before .before .before .before .old .given .1 in
-    rw e (c .before .before .add-entry .ensures n xs L (rw e at I))
+    let r = c .before .before .add-entry .ensures in
+    rw e (r .0, r .1)
 
 returns-4 : tie.Need-returns-4
 unfolding drops
-returns-4 c = λ n xs L I. rw (c .enum-told3 .given .1) (logged-same L)
+returns-4 c = rw (c .enum-told3 .given .1) (omega arith, λ n xs L I. logged-same L)
 
 pub log-old-spec : {M : Type 1} → statement M
 log-old-spec =
