@@ -2,15 +2,15 @@
 ghost use mathlib.Core.Path.{_≡_};
 ghost use mathlib.Core.List.{List, [], _∷_, _++_, map};
 ghost use mathlib.Core.Option.{Option};
-ghost use Prim.Native.Nat.{ℕ, _+_, _*_, _-_, _<_, _≤_};
+ghost use Prim.Native.Nat.{ℕ, _+_, _*_, _<_, _≤_};
 ghost use lib.ListN.{length, getD, set, replicate};
-ghost use lib.IntN.{ℤ, pos, negsuc};
+ghost use lib.IntN.{pos, negsuc};
 ghost use Rattle.rules.specs.declared.Field.{Field};
 ghost use Rattle.rules.specs.declared.Field.the-variants.{Nothing, Free};
 ghost use Rattle.rules.specs.Field.{addressOf, fieldOf, kindOf, valueOf, variableOf};
 ghost use Rattle.rules.specs.Head.{Sizes};
 ghost use Rattle.rules.specs.Rules.{Transaction};
-ghost use Rattle.rules.specs.Settle.{place, field, store, drops};
+ghost use Rattle.rules.specs.Settle.{store, drops};
 ghost use Rattle.rules.specs.Step.{after, freeFrom, fresh};
 ghost use Rattle.rules.specs.Rows.{lent, rowsOf, Inside, Cells, Logged};
 ghost use Rattle.cells.specs.Leaves.{heldAs};
@@ -134,7 +134,8 @@ pub fn clear(row: &mut [u32])
 pub fn add_entry(log: &mut [u32], len: usize, kind: u32, a: usize) -> usize
     requires { ⌜ (2 * len + 1 < length (now log)) × (a < 2048) ⌝ }
     requires { ⌜ (1 ≤ kind) × (kind ≤ 3) ⌝ }
-    ensures { λ r. ⌜ ((n : ℕ) (xs : List Transaction) → Logged n (now (log .entry)) len xs → a < n → Logged n (now (log .exit)) r (xs ++ (transaction kind a ∷ []))) ⌝ }
+    ensures count { λ r. ⌜ r ≡ len + 1 ⌝ }
+    ensures logged { λ r. ⌜ ((n : ℕ) (xs : List Transaction) → Logged n (now (log .entry)) len xs → a < n → Logged n (now (log .exit)) r (xs ++ (transaction kind a ∷ []))) ⌝ }
 {
     log[2 * len] = kind;
     log[2 * len + 1] = a as u32;
@@ -145,7 +146,8 @@ pub fn add_entry(log: &mut [u32], len: usize, kind: u32, a: usize) -> usize
 pub fn log_old(log: &mut [u32], len: usize, old: Field) -> usize
     requires { ⌜ 2 * (len + length (drops old)) ≤ length (now log) ⌝ }
     requires { ⌜ Inside 1024 old ⌝ }
-    ensures { λ r. ⌜ ((n : ℕ) (xs : List Transaction) → Logged n (now (log .entry)) len xs → Inside n old → Logged n (now (log .exit)) r (xs ++ drops old)) ⌝ }
+    ensures count { λ r. ⌜ r ≡ len + length (drops old) ⌝ }
+    ensures logged { λ r. ⌜ ((n : ℕ) (xs : List Transaction) → Logged n (now (log .entry)) len xs → Inside n old → Logged n (now (log .exit)) r (xs ++ drops old)) ⌝ }
 {
     match old {
         Field::Nothing => len,
@@ -246,10 +248,10 @@ pub fn fresh_cells(kinds: &mut [u8], values: &mut [i32], n: usize)
 pub fn fill_nothing(variables: &mut [i32])
     ensures { λ _. ⌜ now (variables .exit) ≡ replicate (length (now (variables .entry))) (negsuc 0) ⌝ }
 {
-    let mut v = 0;
-    while v < variables.len() {
-        variables[v] = -1;
-        v += 1;
+    let mut i = 0;
+    while i < variables.len() {
+        variables[i] = -1;
+        i += 1;
     }
 }
 

@@ -1,3 +1,4 @@
+-- `cells::free_cell` meets its contract: two stores to each row, which are two stores to the fields. Assumes nothing.
 use Prim.Native.Nat.{_+_, _*_}
 use Rattle.rules.specs.declared.Field.the-variants.{Nothing, Free}
 use Rattle.cells.proofs.Filling.{set-twice}
@@ -5,39 +6,28 @@ use Rattle.cells.proofs.Storing.{stored-at, stored-first}
 use borrow.Author.Needs.{needs}
 use Rattle.cells.proofs.free_cell.Statement.{statement}
 use Rattle.cells.proofs.free_cell.Tie as tie
-use Rattle.cells.proofs.free_cell.Reads as reads
-use Rattle.cells.proofs.free_cell.Lts as lts
-use Rattle.cells.proofs.put_field.Reads as put-field-reads
 
--- src/lib.rt:183:30
 mul-put-field : tie.Need-mul-put-field
 mul-put-field c = search needs
 
--- src/lib.rt:183:5
 put-field-requires : tie.Need-put-field-requires
 put-field-requires c κs = search needs
 
--- src/lib.rt:184:30
 mul-put-field-2 : tie.Need-mul-put-field-2
 mul-put-field-2 c = search needs
 
--- src/lib.rt:184:30
 add-put-field : tie.Need-add-put-field
 add-put-field c = search needs
 
--- src/lib.rt:184:5
 put-field-requires-2 : tie.Need-put-field-requires-2
 put-field-requires-2 c κs = search needs
 
--- src/lib.rt:176:1
 same-length : tie.Need-same-length
 same-length c = search needs
 
--- src/lib.rt:176:1
 same-length-2 : tie.Need-same-length-2
 same-length-2 c = search needs
 
--- src/lib.rt:176:1
 returns : tie.Need-returns
 returns c =
     let q = c .before .before .before in

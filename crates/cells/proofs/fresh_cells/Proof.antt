@@ -1,3 +1,4 @@
+-- `cells::fresh_cells` meets its contract. The loop's invariant: the rows of the first `a` free cells, and the rows as they were from there on. Assumes nothing.
 use mathlib.Core.Path.{_∙_}
 use borrow.Author.Needs.{needs}
 use mathlib.Core.Path.{_≡_}
@@ -10,9 +11,6 @@ use Rattle.rules.specs.Step.{freeFrom}
 use Rattle.cells.proofs.Freshness.{freed-next, freed-all}
 use Rattle.cells.proofs.fresh_cells.Statement.{statement}
 use Rattle.cells.proofs.fresh_cells.Tie as tie
-use Rattle.cells.proofs.fresh_cells.Reads as reads
-use Rattle.cells.proofs.fresh_cells.Lts as lts
-use Rattle.cells.proofs.free_cell.Reads as free-cell-reads
 
 abbrev Inv-loop : tie.InvT-loop
 Inv-loop kinds₀ values₀ n a₀ kinds values a =
@@ -24,28 +22,22 @@ Inv-loop kinds₀ values₀ n a₀ kinds values a =
 abbrev μ-loop : tie.MeasureT-loop
 μ-loop kinds₀ values₀ n a₀ kinds values a = n - a
 
--- src/lib.rt:239:5
 loop-holds : tie.Need-loop-holds Inv-loop μ-loop
 unfolding freeFrom
 loop-holds c = search needs
 
--- src/lib.rt:240:37
 add-free-cell : tie.Need-add-free-cell Inv-loop μ-loop
 add-free-cell c = search needs
 
--- src/lib.rt:240:9
 free-cell-requires : tie.Need-free-cell-requires Inv-loop μ-loop
 free-cell-requires c κs = search needs
 
--- src/lib.rt:241:9
 add-a : tie.Need-add-a Inv-loop μ-loop
 add-a c = search needs
 
--- src/lib.rt:239:5
 loop-less : tie.Need-loop-less Inv-loop μ-loop
 loop-less c = search needs
 
--- src/lib.rt:239:5
 loop-again : tie.Need-loop-again Inv-loop μ-loop
 loop-again c =
     let s = c .before .before .before .before .before .before .before .before .before in
@@ -66,15 +58,12 @@ loop-again c =
       ),
     )
 
--- src/lib.rt:234:1
 same-length : tie.Need-same-length Inv-loop μ-loop
 same-length c = search needs
 
--- src/lib.rt:234:1
 same-length-2 : tie.Need-same-length-2 Inv-loop μ-loop
 same-length-2 c = search needs
 
--- src/lib.rt:234:1
 returns : tie.Need-returns Inv-loop μ-loop
 returns c =
     let s = c .before .before .before in

@@ -1,3 +1,4 @@
+-- `cells::mark_held` meets its contract. The loop's invariant: the marks of what the variables before `v` hold. Assumes nothing.
 use borrow.Author.Needs.{needs}
 use mathlib.Core.List.{map}
 use Prim.Native.Nat.{_≤_, _-_}
@@ -8,11 +9,6 @@ use Rattle.cells.specs.Marks.{Marks}
 use Rattle.cells.proofs.Marking.{marked-none, marked-next, marked-all}
 use Rattle.cells.proofs.mark_held.Statement.{statement}
 use Rattle.cells.proofs.mark_held.Tie as tie
-use Rattle.cells.proofs.mark_held.Reads as reads
-use Rattle.cells.proofs.mark_held.Lts as lts
-use Rattle.cells.proofs.clear.Reads as clear-reads
-use Rattle.cells.proofs.held.Reads as held-reads
-use Rattle.cells.proofs.mark.Reads as mark-reads
 
 abbrev Inv-loop : tie.InvT-loop
 Inv-loop variables work₀ n v₀ work v = (v ≤ length variables) × Marks n work (map heldOf (take v variables))
@@ -20,34 +16,27 @@ Inv-loop variables work₀ n v₀ work v = (v ≤ length variables) × Marks n w
 abbrev μ-loop : tie.MeasureT-loop
 μ-loop variables work₀ n v₀ work v = length variables - v
 
--- src/lib.rt:223:5
 clear-requires : tie.Need-clear-requires Inv-loop μ-loop
 clear-requires c κs = search needs
 
--- src/lib.rt:226:5
 loop-holds : tie.Need-loop-holds Inv-loop μ-loop
 loop-holds c =
     let z = c .before .before .clear in
     let s = c .before .before .before .before .before in
     (search needs, marked-none (s .args .work .now) _ (s .args .variables .now) (z .kept .0) (z .ensures))
 
--- src/lib.rt:227:13
 held-requires : tie.Need-held-requires Inv-loop μ-loop
 held-requires c κs = search needs
 
--- src/lib.rt:228:9
 mark-requires : tie.Need-mark-requires Inv-loop μ-loop
 mark-requires c κs = search needs
 
--- src/lib.rt:229:9
 add-v : tie.Need-add-v Inv-loop μ-loop
 add-v c = search needs
 
--- src/lib.rt:226:5
 loop-less : tie.Need-loop-less Inv-loop μ-loop
 loop-less c = search needs
 
--- src/lib.rt:226:5
 loop-again : tie.Need-loop-again Inv-loop μ-loop
 loop-again c =
     let m = c .before .before .mark in
@@ -56,14 +45,12 @@ loop-again c =
     let t = c .before .before .before .before .before .loop-test .taken in
     (omega arith, marked-next _ _ _ _ _ _ t (l .inv .1) (h .ensures) (m .ensures))
 
--- src/lib.rt:220:1
 same-length : tie.Need-same-length Inv-loop μ-loop
 same-length c =
     let z = c .before .before .before .before .clear .kept .0 in
     let l = c .before .loop .inv .1 .long in
     omega arith
 
--- src/lib.rt:220:1
 returns : tie.Need-returns Inv-loop μ-loop
 returns c =
     let z = c .before .before .before .before .clear .kept .0 in
