@@ -4,6 +4,8 @@ pub mod Tests
 pub mod Worthless
 pub mod Demand1
 pub mod Worked
+pub mod Fine
+pub mod Roundtrip
 pub mod Tables
 pub mod Exact
 pub mod Sorted
@@ -12,3 +14,5 @@ pub mod FreeList
 pub mod Calls
 pub mod Step
 pub mod Fresh
+pub mod Unique
+pub mod Whole

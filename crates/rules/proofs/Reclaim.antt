@@ -296,6 +296,28 @@ pub lives-taken : (fs : List Field) (a : ℕ) → live fs a ≡ false → place 
 unfolding store live place
 lives-taken fs a l h = let e = rw l at (lives-set fs a (2 * a + 0) Nothing (omega arith) (omega arith)) in omega arith
 
+-- with nothing to take, nothing is done
+pub reclaim-idle : (cap : ℕ) (hs : List (Option ℕ)) (k : ℕ) (h : Heap) → Done hs h → reclaim cap hs k h ≡ h
+unfolding reclaim
+reclaim-idle cap hs zero h d = refl
+reclaim-idle cap hs (suc k) h d = rw d
+
+-- one turn more, seen from its end
+pub reclaim-last : (cap : ℕ) (hs : List (Option ℕ)) (k : ℕ) (h : Heap)
+    → reclaim cap hs (suc k) h ≡ onPick (pick hs (reclaim cap hs k h .tables .zct)) (reclaim cap hs k h) (λ a. freeCell cap a (reclaim cap hs k h))
+unfolding reclaim
+reclaim-last cap hs zero h = refl
+reclaim-last cap hs (suc k) h = go (pick hs (h .tables .zct)) refl (reclaim-last cap hs k)
+  where
+    turn : Option ℕ → Heap
+    turn o = onPick o h (λ a. reclaim cap hs k (freeCell cap a h))
+
+    go : (o : Option ℕ) → pick hs (h .tables .zct) ≡ o
+        → ((h : Heap) → reclaim cap hs (suc k) h ≡ onPick (pick hs (reclaim cap hs k h .tables .zct)) (reclaim cap hs k h) (λ a. freeCell cap a (reclaim cap hs k h)))
+        → onPick o h (λ a. reclaim cap hs (suc k) (freeCell cap a h)) ≡ onPick (pick hs (turn o .tables .zct)) (turn o) (λ a. freeCell cap a (turn o))
+    go none e ih = rw e
+    go (some a) e ih = ih (freeCell cap a h)
+
 module _ (n cap : ℕ) (cap3 : 3 ≤ cap) (hs : List (Option ℕ)) where
   abbrev G : Heap → Type 0
   G h = Good n cap (h .shape .fields) hs (h .tables)
@@ -373,11 +395,8 @@ module _ (n cap : ℕ) (cap3 : 3 ≤ cap) (hs : List (Option ℕ)) where
       (λ j a g e p. let q = freeCell-less j g a e in omega arith)
       k h g refl
 
-  -- with nothing to take, nothing is done
-  pub reclaim-idle : (k : ℕ) (h : Heap) → Done hs h → reclaim cap hs k h ≡ h
-  unfolding reclaim
-  reclaim-idle zero h d = refl
-  reclaim-idle (suc k) h d = rw d
+  pub reclaim-still-good : (k : ℕ) (h : Heap) → G h → G (reclaim cap hs k h)
+  reclaim-still-good k h g = reclaim-keeps G (λ h a g e p. freeCell-good h g a e) k h g g
 
   pub reclaim-plain : (k : ℕ) (h : Heap) → G h → Plain1 (h .shape .fields) → Plain1 (reclaim cap hs k h .shape .fields)
   unfolding freeCell

@@ -26,6 +26,10 @@ use Rattle.rules.proofs.Reclaim.{live-store-0, refs-store, length-store
 use Rattle.rules.proofs.FreeList.{Taken, frees-store, frees-take, reclaim-frees}
 use Rattle.rules.proofs.Calls.{Fits, AllFit, SizesOk, holds-set, call-good, act-keeps, act-variables, logs-small, logs-long, store-live}
 
+-- a call's check looks at the variables alone
+abbrev pub SameCheck : Call → Type 0
+SameCheck c = (a b : Shape) → a .variables ≡ b .variables → check c a ≡ check c b
+
 -- ---- a settle that counts any holds
 
 module _ (s : Sizes) (ok : SizesOk s) (hs : List (Option ℕ)) (h : Heap)
@@ -93,8 +97,8 @@ module _ (s : Sizes) (ok : SizesOk s) where
         log-small = rw l tt;
       }
 
-  pub settle-ended : (h : Heap) → Inv s h → Ended s (settled s h)
-  settle-ended h g = let d = settled-done h g in record { inv = settled-inv h g; settled-all = rw (d .1 .1) (d .0); log-empty = d .1 .0 }
+  pub settle-sound : (h : Heap) → Inv s h → Ended s (settled s h)
+  settle-sound h g = let d = settled-done h g in record { inv = settled-inv h g; settled-all = rw (d .1 .1) (d .0); log-empty = d .1 .0 }
 
   pub settledIf-inv : (b : Bool) (h : Heap) → Inv s h → (Inv s (settledIf b s h)) × (settledIf b s h .shape .variables ≡ h .shape .variables)
   unfolding settledIf
@@ -196,11 +200,12 @@ module _ (s : Sizes) (ok : SizesOk s) where
 
   -- ---- a call
 
-  same-check : Call → Type 0
-  same-check c = (a b : Shape) → a .variables ≡ b .variables → check c a ≡ check c b
+  pub room-check : (c : Call) (h : Heap) → Inv s h → SameCheck c → check c (h .shape) ≡ 0 → check c (room s c h .shape) ≡ 0
+  unfolding room
+  room-check c h g p e = p (room s c h .shape) (h .shape) (settledIf-inv (full s (length (logs c (h .shape))) h) h g .1) ∙ e
 
-  room-inv : (c : Call) (h : Heap) → Inv s h → Fits s c → check c (h .shape) ≡ 0 → same-check c → Inv s (doCall c (room s c h) .heap)
-  unfolding room same-check settledIf
+  room-inv : (c : Call) (h : Heap) → Inv s h → Fits s c → check c (h .shape) ≡ 0 → SameCheck c → Inv s (doCall c (room s c h) .heap)
+  unfolding room settledIf
   room-inv c h g f e p = go (full s (length (logs c (h .shape))) h) refl
     where
       go : (q : Bool) → full s (length (logs c (h .shape))) h ≡ q → Inv s (doCall c (settledIf q s h) .heap)
@@ -233,7 +238,7 @@ module _ (s : Sizes) (ok : SizesOk s) where
   short h g = let r = g .log-room in omega arith
 
   pub run-inv : (c : Call) (h : Heap) → Inv s h → Fits s c → check c (h .shape) ≡ 0 → Inv s (run s c h .heap)
-  unfolding run doSettle check var logs same-check
+  unfolding run doSettle check var logs
   run-inv (New v) h g f e = doNew-inv v (settledIf (full s 1 h || noneFree s h) s h) (settledIf-inv (full s 1 h || noneFree s h) h g .0) (new-room h g)
   run-inv (Copy v w) h g f e = doCall-inv h g (Copy v w) f e (short h g)
   run-inv (Clear v) h g f e = doCall-inv h g (Clear v) f e (short h g)
@@ -257,7 +262,7 @@ module _ (s : Sizes) (ok : SizesOk s) where
 
   pub calls-ended : (cs : List Call) (h : Heap) → Inv s h → AllFit s cs → Ended s (calls s cs h .heap)
   unfolding calls
-  calls-ended [] h g f = settle-ended h g
+  calls-ended [] h g f = settle-sound h g
   calls-ended (c ∷ cs) h g f = calls-ended cs (step s c h .heap) (step-inv c h g (f .0)) (f .1)
 
   -- the invariant does not ask how many cells were freed

@@ -1,0 +1,214 @@
+-- The rows of a heap that keeps the invariant are that heap, and rows that are a heap are those written down for it. Assumes nothing.
+use Prim.Native.Nat.{ℕ, zero, suc, _+_, _*_, _-_, _≤_, _<_}
+use mathlib.Core.Path.{_≡_, refl, sym, ap, _∙_, subst}
+use mathlib.Core.Bool.{Bool, true, false, cond, _||_, true≢false}
+use mathlib.Core.Option.{Option, none, some}
+use mathlib.Core.List.{List, [], _∷_, _++_, map}
+use native.Mathlib.Omega.{arith}
+use lib.Dec.{eqb}
+use lib.ListN.{length, getD, replicate, length-map, length-replicate, List·getD-append}
+use lib.IntN.{ℤ}
+use borrow.Author.Tests.{eqb-true}
+use Rattle.rules.specs.declared.Head.{Head}
+use Rattle.rules.specs.declared.Used.{Used}
+use Rattle.rules.specs.declared.Field.{Field}
+use Rattle.rules.specs.declared.Field.the-variants.{Nothing, Figure, Cell, Free}
+use Rattle.rules.specs.Head.{Sizes, Limits, sizesOf}
+use Rattle.rules.specs.Field.{kindOf, valueOf, variableOf}
+use Rattle.rules.specs.Table.{Entry, addresses, counts, pad}
+use Rattle.rules.specs.Rules.{Tables, Transaction, allocates, creates, destroys}
+use Rattle.rules.specs.Settle.{Shape, Heap, holds, place, field}
+use Rattle.rules.specs.Rows.{Lent, lent, words, rowsOf, headOf, heapOf, Is, Are, Inside, Cells, Rows, Logged, Whole}
+use Rattle.rules.specs.Sound.{times, Sound, Sized}
+use Rattle.rules.specs.Refusals.{cleared}
+use Rattle.rules.proofs.Invariant.{hit, refs, used, live, Counted, Good, Chain, Frees, Small, Inv}
+use Rattle.rules.proofs.Tables.{eqb-self}
+use Rattle.rules.proofs.Reclaim.{live-below}
+use Rattle.rules.proofs.Fine.{Fine, fine-of}
+use Rattle.rules.proofs.Roundtrip.{Half, half, length-pad, length-words, mark-there, chain-within, first-within, zct-fits, addresses-fit, counts-fit, log-fits, head-of-heap, rows-of-heap}
+
+-- ---- what fields and variables name is inside
+
+refs-at : (fs : List Field) (i b : ℕ) → getD fs i Nothing ≡ Cell b → 1 ≤ refs fs b
+refs-at [] i b e = absurd (let z : _≡_ {A = ℕ} 0 1 = cc in omega arith)
+refs-at (x ∷ fs) zero b e = rw (e, eqb-self b) (omega arith)
+refs-at (x ∷ fs) (suc i) b e = omega (arith, refs-at fs i b e)
+
+mark-dead : (fs : List Field) (i b : ℕ) → getD fs i Nothing ≡ Free b → used (getD fs i (Free 0)) ≡ false
+mark-dead [] i b e = refl
+mark-dead (x ∷ fs) zero b e = ap used e
+mark-dead (x ∷ fs) (suc i) b e = mark-dead fs i b e
+
+-- the address after a cell of the free list
+chain-next : (fs : List Field) (n : ℕ) → length fs ≡ 2 * n → (from : ℕ) (l : List ℕ) → Chain fs n from l → (a b : ℕ) → 1 ≤ times a l → field fs a 0 ≡ Free b → b ≤ n
+chain-next fs n e from [] c a b t f = absurd (omega arith)
+chain-next fs n e from (x ∷ l) c a b t f = go (eqb a x) refl t (λ k. chain-next fs n e (c .1 .0) l (c .1 .3) a b k f)
+  where
+    go : (q : Bool) → eqb a x ≡ q → 1 ≤ cond q 1 0 + times a l → (1 ≤ times a l → b ≤ n) → b ≤ n
+    go true d t ih =
+        let g : a ≡ from = eqb-true a x d ∙ c .0 in
+        let f′ : field fs from 0 ≡ Free b = rw g at f in
+        let k = c .1 .1 in
+        let same : c .1 .0 ≡ b = cc in
+        let w = chain-within fs n e (c .1 .0) l (c .1 .3) in
+        omega arith
+    go false d t ih = ih (omega arith)
+
+holds-at : (hs : List (Option ℕ)) (v a : ℕ) → getD hs v none ≡ some a → holds a hs ≡ true
+holds-at [] v a e = absurd (let z : _≡_ {A = ℕ} 0 1 = cc in omega arith)
+holds-at (none ∷ hs) zero a e = absurd (let z : _≡_ {A = ℕ} 0 1 = cc in omega arith)
+holds-at (none ∷ hs) (suc v) a e = holds-at hs v a e
+holds-at (some b ∷ hs) zero a e = let f : b ≡ a = cc in rw (f, eqb-self a)
+holds-at (some b ∷ hs) (suc v) a e = rw (holds-at hs v a e) (or-right (eqb a b))
+  where
+    or-right : (p : Bool) → (p || true) ≡ true
+    or-right true = refl
+    or-right false = refl
+
+module _ {s : Sizes} {h : Heap} (I : Inv s h) where
+  -- a pointer names a cell in use
+  pub cell-inside : (i b : ℕ) → getD (h .shape .fields) i Nothing ≡ Cell b → b < s .n
+  cell-inside i b e = go (live (h .shape .fields) b) refl
+    where
+      go : (q : Bool) → live (h .shape .fields) b ≡ q → b < s .n
+      go true d = live-below (s .n) (h .shape .fields) (I .good .len) b d
+      go false d = absurd (let k = I .good .counted b .gone d .1 in let r = refs-at (h .shape .fields) i b e in omega arith)
+
+  -- the mark of a free cell names the next of the free list
+  pub mark-inside : (i b : ℕ) → getD (h .shape .fields) i Nothing ≡ Free b → b ≤ s .n
+  unfolding field place live
+  mark-inside i b e = go (g .part) refl (g .small)
+    where
+      g : Half i
+      g = half i
+
+      go : (f : ℕ) → g .part ≡ f → f < 2 → b ≤ s .n
+      go zero d l =
+          let is0 = g .is in
+          let w : i ≡ 2 * g .cell + 0 = omega arith in
+          let e′ : getD (h .shape .fields) (2 * g .cell + 0) Nothing ≡ Free b = rw w at e in
+          let t = mark-there (h .shape .fields) (2 * g .cell + 0) b e′ in
+          let z = I .good .len in
+          let o = I .frees .once (g .cell) (omega arith) in
+          let k = rw (mark-dead (h .shape .fields) (2 * g .cell + 0) b e′) at o in
+          chain-next (h .shape .fields) (s .n) z (h .first) (I .frees .list) (I .frees .chain) (g .cell) b (omega arith) e′
+      go (suc zero) d l =
+          let is1 = g .is in
+          let w : i ≡ 2 * g .cell + 1 = omega arith in
+          absurd (I .plain-1 (g .cell) b (rw w at e))
+      go (suc (suc f)) d l = absurd (omega arith)
+
+  pub inside : (i : ℕ) → Inside (s .n) (getD (h .shape .fields) i Nothing)
+  inside i = go (getD (h .shape .fields) i Nothing) refl
+    where
+      go : (f : Field) → getD (h .shape .fields) i Nothing ≡ f → Inside (s .n) f
+      go Nothing e = tt
+      go (Figure x) e = tt
+      go (Cell b) e = cell-inside i b e
+      go (Free b) e = mark-inside i b e
+
+  pub held-inside : (v a : ℕ) → getD (h .shape .variables) v none ≡ some a → a < s .n
+  held-inside v a e = live-below (s .n) (h .shape .fields) (I .good .len) a (I .good .held a (holds-at (h .shape .variables) v a e))
+
+-- ---- the log's row
+
+twice : (i : ℕ) → 2 * suc i + 1 ≡ suc (suc (2 * i + 1))
+twice i = omega arith
+
+words-small : (n : ℕ) (xs : List Transaction) → Small n xs → (i : ℕ) → i < length xs → getD (words xs) (2 * i + 1) 0 < n
+words-small n [] S i l = absurd (omega arith)
+words-small n (allocates a ∷ xs) S zero l = S .0
+words-small n (creates a ∷ xs) S zero l = S .0
+words-small n (destroys a ∷ xs) S zero l = S .0
+words-small n (allocates a ∷ xs) S (suc i) l = rw (twice i) (words-small n xs (S .1) i (omega arith))
+words-small n (creates a ∷ xs) S (suc i) l = rw (twice i) (words-small n xs (S .1) i (omega arith))
+words-small n (destroys a ∷ xs) S (suc i) l = rw (twice i) (words-small n xs (S .1) i (omega arith))
+
+pub logged-of : (n k : ℕ) (xs : List Transaction) → length xs ≤ k → Small n xs → Logged n (pad (2 * k) (words xs)) (length xs) xs
+logged-of n k xs h S =
+    let w = length-words xs in
+    let long : length (pad (2 * k) (words xs)) ≡ 2 * k = length-pad (2 * k) (words xs) (omega arith) in
+    record {
+      count = refl;
+      fits = omega arith;
+      row = sym (ap (λ (m : ℕ). pad m (words xs)) long);
+      small = λ i l. rw (List·getD-append (words xs) (replicate (2 * k - length (words xs)) 0) 0 (2 * i + 1) (omega arith)) (words-small n xs S i l);
+    }
+
+-- ---- the whole
+
+-- the used lengths of a heap's tables
+abbrev pub usedOf : Heap → Used
+usedOf h = record { zct = length (h .tables .zct); mrt = length (h .tables .mrt) }
+
+pub whole-of : (s : Sizes) → Fine s → (h : Heap) → Inv s h → (work : List ℕ) → length work ≡ s .n
+    → Whole (s .n) (s .cap) (rowsOf s h .kinds) (rowsOf s h .values) (rowsOf s h .variables) (rowsOf s h .zct) (rowsOf s h .mrt) (rowsOf s h .counts) (rowsOf s h .log) work (length (h .log)) (h .first) (usedOf h) h
+unfolding rowsOf
+whole-of s F h I work e =
+    record {
+      rows =
+          record {
+            bounds = record { most = F .n-most; big = F .cap-least };
+            cells = record { long = I .good .len; kinds = refl; values = refl; inside = inside I };
+            ready =
+                record {
+                  are =
+                      record {
+                        zct-is = record { long = length-pad (s .n) (h .tables .zct) (zct-fits I); count = refl; padded = refl };
+                        mrt-is =
+                            record {
+                              long = length-pad (s .n) (addresses (h .tables .mrt)) (addresses-fit I);
+                              count = sym (length-map (h .tables .mrt) _);
+                              padded = refl;
+                            };
+                        counts-is =
+                            record {
+                              long = length-pad (s .n) (counts (h .tables .mrt)) (counts-fit I);
+                              count = sym (length-map (h .tables .mrt) _);
+                              padded = refl;
+                            };
+                      };
+                  kept = I .kept;
+                };
+            first = refl;
+            within = first-within I;
+          };
+      logged = logged-of (s .n) (s .l) (h .log) (I .log-room) (I .log-small);
+      variables-are = refl;
+      held-inside = held-inside I;
+      work-long = e;
+    }
+
+used-at : {h : Head} {r : Lent} → Sized h r → usedOf (heapOf h r) ≡ record { zct = h .zct; mrt = h .mrt }
+unfolding headOf
+used-at Z = ap (λ (x : Head). record { zct = x .zct; mrt = x .mrt }) (head-of-heap Z)
+
+-- the rows of a sound heap are the heap that is read from them
+pub whole-at : {h : Head} {r : Lent} → Sized h r → Sound h r → Inv (sizesOf h) (heapOf h r) → (work : List ℕ) → length work ≡ h .n
+    → Whole (h .n) (h .cap) (r .kinds) (r .values) (r .variables) (r .zct) (r .mrt) (r .counts) (r .log) work 0 (h .free) (record { zct = h .zct; mrt = h .mrt }) (heapOf h r)
+unfolding heapOf
+whole-at {h} {r} Z S I work e =
+    rw (rows-of-heap Z S, used-at Z) at (whole-of (sizesOf h) (fine-of (Z .limits)) (heapOf h r) I work e)
+
+-- ---- and the converse, for an entry point's exit
+
+module _ (s : Sizes) {ks : List ℕ} {xs vs : List ℤ} {zs ms cs log work : List ℕ} {len free : ℕ} {u : Used} {h : Heap} (W : Whole (s .n) (s .cap) ks xs vs zs ms cs log work len free u h) where
+  -- all rows but the work row are those of the heap
+  pub rows-are : length log ≡ 2 * s .l → lent ks xs vs zs ms cs log (replicate (s .n) 0) ≡ rowsOf s h
+  unfolding rowsOf
+  rows-are e =
+      let R = W .rows in
+      let A = R .ready .are in
+      let g : log ≡ pad (2 * s .l) (words (h .log)) = W .logged .row ∙ ap (λ (m : ℕ). pad m (words (h .log))) e in
+      rw (R .cells .kinds, R .cells .values, W .variables-are, A .zct-is .padded, A .mrt-is .padded, A .counts-is .padded, g)
+
+  -- the work row too, where it is zero
+  pub rows-all : length log ≡ 2 * s .l → work ≡ replicate (s .n) 0 → lent ks xs vs zs ms cs log work ≡ rowsOf s h
+  rows-all e w = ap (λ (t : List ℕ). lent ks xs vs zs ms cs log t) w ∙ rows-are e
+
+  -- and the head
+  pub head-is : record { n = s .n; m = s .m; l = s .l; cap = s .cap; free = free; zct = u .zct; mrt = u .mrt } ≡ headOf s h
+  unfolding headOf
+  head-is =
+      let A = W .rows .ready .are in
+      rw (W .rows .first, A .zct-is .count, A .mrt-is .count ∙ length-map (h .tables .mrt) _)
