@@ -1,0 +1,363 @@
+// Is a heap sound? The rows may hold anything.
+ghost use mathlib.Core.Path.{_≡_};
+ghost use Prim.Native.Nat.{ℕ, _*_, _<_, _≤_};
+ghost use lib.ListN.{length, replicate};
+ghost use Rattle.rules.specs.Head.{Says, Limits};
+ghost use Rattle.rules.specs.Rows.{lent};
+ghost use Rattle.rules.specs.Sound.{TableRow, FreeList, Lengths, Sized, Sound};
+ghost use Rattle.rules.specs.Refusals.{leaves, auditOf};
+ghost use Rattle.checks.specs.CellRows.{CellRows};
+ghost use Rattle.checks.specs.Counts.{Within};
+ghost use Rattle.audit.specs.Parts.{CellsSound, TableSound, CountsSound, TablesSound, PointersSound, HeldSound, RowsSound, WorkSound};
+use checks::all_held;
+use checks::all_met;
+use checks::clear;
+use checks::compare;
+use checks::count;
+use checks::mark_held;
+use checks::ranged;
+use checks::table;
+use checks::walk;
+use checks::words;
+use checks::zero_from;
+use rules::Head;
+use rules::Outcome;
+
+// Are fields and variables as they are to be?
+pub fn cells_sound(kinds: &[u8], values: &[i32], variables: &[i32], n: usize) -> bool
+    requires { ⌜ CellRows n (now kinds) (now values) ⌝ }
+    ensures { λ r. ⌜ Says r (CellsSound n (now (kinds .entry)) (now (values .entry)) (now (variables .entry))) ⌝ }
+{
+    if !words(kinds, values, n) {
+        return false;
+    }
+    if !checks::variables(kinds, n, variables) {
+        return false;
+    }
+    true
+}
+
+// Is a row of addresses as it is to be?
+pub fn table_sound(kinds: &[u8], n: usize, row: &[u32], used: usize) -> bool
+    requires { ⌜ (length (now kinds) ≡ 2 * n) × ((n ≤ 1024) × (used ≤ length (now row))) ⌝ }
+    ensures { λ r. ⌜ Says r (TableSound n (now (kinds .entry)) (now (row .entry)) used) ⌝ }
+{
+    if !table(kinds, n, row, used) {
+        return false;
+    }
+    if !zero_from(row, used) {
+        return false;
+    }
+    true
+}
+
+// Is the row of counts as it is to be?
+pub fn counts_sound(counts: &[u32], used: usize, cap: usize) -> bool
+    requires { ⌜ used ≤ length (now counts) ⌝ }
+    ensures { λ r. ⌜ Says r (CountsSound (now (counts .entry)) used cap) ⌝ }
+{
+    if !ranged(counts, used, cap) {
+        return false;
+    }
+    if !zero_from(counts, used) {
+        return false;
+    }
+    true
+}
+
+// Are the tables' lent as they are to be?
+pub fn tables_sound(
+    kinds: &[u8],
+    n: usize,
+    zct: &[u32],
+    zused: usize,
+    mrt: &[u32],
+    counts: &[u32],
+    mused: usize,
+    cap: usize,
+) -> bool
+    requires { ⌜ (length (now kinds) ≡ 2 * n) × (n ≤ 1024) ⌝ }
+    requires { ⌜ (zused ≤ length (now zct)) × ((mused ≤ length (now mrt)) × (mused ≤ length (now counts))) ⌝ }
+    ensures { λ r. ⌜ Says r (TablesSound n (now (kinds .entry)) (now (zct .entry)) zused (now (mrt .entry)) (now (counts .entry)) mused cap) ⌝ }
+{
+    if !table_sound(kinds, n, zct, zused) {
+        return false;
+    }
+    if !table_sound(kinds, n, mrt, mused) {
+        return false;
+    }
+    if !counts_sound(counts, mused, cap) {
+        return false;
+    }
+    true
+}
+
+// Do the tables agree with the pointers?
+pub fn pointers_sound(
+    kinds: &[u8],
+    values: &[i32],
+    n: usize,
+    zct: &[u32],
+    zused: usize,
+    mrt: &[u32],
+    counts: &[u32],
+    mused: usize,
+    cap: usize,
+    work: &mut [u32],
+) -> bool
+    requires { ⌜ CellRows n (now kinds) (now values) ⌝ }
+    requires { ⌜ (zused ≤ length (now zct)) × ((mused ≤ length (now mrt)) × ((mused ≤ length (now counts)) × (length (now work) ≡ n))) ⌝ }
+    requires { ⌜ TableRow n (now kinds) (now zct) zused ⌝ }
+    requires { ⌜ TableRow n (now kinds) (now mrt) mused ⌝ }
+    ensures { λ r. ⌜ Says r (PointersSound n (now (kinds .entry)) (now (values .entry)) (now (zct .entry)) zused (now (mrt .entry)) (now (counts .entry)) mused cap) ⌝ }
+{
+    clear(work);
+    count(kinds, values, n, work);
+    compare(kinds, n, zct, zused, mrt, counts, mused, cap, work)
+}
+
+// Does some variable hold each of the used entries?
+pub fn held_sound(variables: &[i32], n: usize, zct: &[u32], zused: usize, work: &mut [u32]) -> bool
+    requires { ⌜ (zused ≤ length (now zct)) × (length (now work) ≡ n) ⌝ }
+    requires { ⌜ Within (now zct) zused n ⌝ }
+    ensures { λ r. ⌜ Says r (HeldSound n (now (variables .entry)) (now (zct .entry)) zused) ⌝ }
+{
+    clear(work);
+    mark_held(variables, n, work);
+    all_held(zct, zused, work)
+}
+
+// Does the free list meet every free cell once?
+pub fn frees_sound(kinds: &[u8], values: &[i32], n: usize, first: usize, work: &mut [u32]) -> bool
+    requires { ⌜ CellRows n (now kinds) (now values) ⌝ }
+    requires { ⌜ length (now work) ≡ n ⌝ }
+    ensures { λ r. ⌜ Says r (FreeList n (now (kinds .entry)) (now (values .entry)) first) ⌝ }
+{
+    clear(work);
+    if !walk(kinds, values, n, first, work) {
+        return false;
+    }
+    all_met(kinds, n, work)
+}
+
+// Is all that shows without the work row as it is to be?
+pub fn rows_sound(
+    head: Head,
+    kinds: &[u8],
+    values: &[i32],
+    variables: &[i32],
+    zct: &[u32],
+    mrt: &[u32],
+    counts: &[u32],
+    log: &[u32],
+) -> bool
+    requires { ⌜ CellRows (head .n) (now kinds) (now values) ⌝ }
+    requires { ⌜ (head .zct ≤ length (now zct)) × ((head .mrt ≤ length (now mrt)) × (head .mrt ≤ length (now counts))) ⌝ }
+    ensures { λ r. ⌜ Says r (RowsSound head (now (kinds .entry)) (now (values .entry)) (now (variables .entry)) (now (zct .entry)) (now (mrt .entry)) (now (counts .entry)) (now (log .entry))) ⌝ }
+{
+    let n = head.n;
+    let zused = head.zct;
+    let mused = head.mrt;
+    let cap = head.cap;
+    if !cells_sound(kinds, values, variables, n) {
+        return false;
+    }
+    if !tables_sound(kinds, n, zct, zused, mrt, counts, mused, cap) {
+        return false;
+    }
+    if !zero_from(log, 0) {
+        return false;
+    }
+    true
+}
+
+// And what shows through the work row?
+pub fn work_sound(
+    head: Head,
+    kinds: &[u8],
+    values: &[i32],
+    variables: &[i32],
+    zct: &[u32],
+    mrt: &[u32],
+    counts: &[u32],
+    work: &mut [u32],
+) -> bool
+    requires { ⌜ CellRows (head .n) (now kinds) (now values) ⌝ }
+    requires { ⌜ (head .zct ≤ length (now zct)) × ((head .mrt ≤ length (now mrt)) × ((head .mrt ≤ length (now counts)) × (length (now work) ≡ head .n))) ⌝ }
+    requires { ⌜ TableRow (head .n) (now kinds) (now zct) (head .zct) ⌝ }
+    requires { ⌜ TableRow (head .n) (now kinds) (now mrt) (head .mrt) ⌝ }
+    ensures { λ r. ⌜ Says r (WorkSound head (now (kinds .entry)) (now (values .entry)) (now (variables .entry)) (now (zct .entry)) (now (mrt .entry)) (now (counts .entry))) ⌝ }
+{
+    let n = head.n;
+    let first = head.free;
+    let zused = head.zct;
+    let mused = head.mrt;
+    let cap = head.cap;
+    if !frees_sound(kinds, values, n, first, work) {
+        return false;
+    }
+    if !pointers_sound(kinds, values, n, zct, zused, mrt, counts, mused, cap, work) {
+        return false;
+    }
+    if !held_sound(variables, n, zct, zused, work) {
+        return false;
+    }
+    true
+}
+
+// Is every part of the heap sound?
+pub fn parts_sound(
+    head: Head,
+    kinds: &[u8],
+    values: &[i32],
+    variables: &[i32],
+    zct: &[u32],
+    mrt: &[u32],
+    counts: &[u32],
+    log: &[u32],
+    work: &mut [u32],
+) -> bool
+    requires { ⌜ Sized head (lent (now kinds) (now values) (now variables) (now zct) (now mrt) (now counts) (now log) (now work)) ⌝ }
+    ensures { λ r. ⌜ Says r (Sound head (lent (now (kinds .entry)) (now (values .entry)) (now (variables .entry)) (now (zct .entry)) (now (mrt .entry)) (now (counts .entry)) (now (log .entry)) (now (work .entry)))) ⌝ }
+{
+    if !rows_sound(head, kinds, values, variables, zct, mrt, counts, log) {
+        return false;
+    }
+    work_sound(head, kinds, values, variables, zct, mrt, counts, work)
+}
+
+// Is the heap sound? The work row may hold anything, and is zero afterwards.
+pub fn sound(
+    head: Head,
+    kinds: &[u8],
+    values: &[i32],
+    variables: &[i32],
+    zct: &[u32],
+    mrt: &[u32],
+    counts: &[u32],
+    log: &[u32],
+    work: &mut [u32],
+) -> bool
+    requires { ⌜ Sized head (lent (now kinds) (now values) (now variables) (now zct) (now mrt) (now counts) (now log) (now work)) ⌝ }
+    ensures { λ r. ⌜ Says r (Sound head (lent (now (kinds .entry)) (now (values .entry)) (now (variables .entry)) (now (zct .entry)) (now (mrt .entry)) (now (counts .entry)) (now (log .entry)) (now (work .entry)))) ⌝ }
+    ensures { λ _. ⌜ now (work .exit) ≡ replicate (head .n) 0 ⌝ }
+{
+    let yes = parts_sound(head, kinds, values, variables, zct, mrt, counts, log, work);
+    clear(work);
+    yes
+}
+
+// Are the rows' lengths those that the head says?
+pub fn lengths(
+    head: Head,
+    kinds: usize,
+    values: usize,
+    variables: usize,
+    zct: usize,
+    mrt: usize,
+    counts: usize,
+    log: usize,
+    work: usize,
+) -> bool
+    requires { ⌜ Limits head ⌝ }
+    ensures { λ r. ⌜ Says r (Lengths head kinds values variables zct mrt counts log work) ⌝ }
+{
+    let n = head.n;
+    let m = head.m;
+    let l = head.l;
+    if kinds != 2 * n {
+        return false;
+    }
+    if values != 2 * n {
+        return false;
+    }
+    if variables != m {
+        return false;
+    }
+    if zct != n {
+        return false;
+    }
+    if mrt != n {
+        return false;
+    }
+    if counts != n {
+        return false;
+    }
+    if log != 2 * l {
+        return false;
+    }
+    if work != n {
+        return false;
+    }
+    true
+}
+
+// Are the head's numbers within the limits, and the rows' lengths as it says?
+pub fn sized(
+    head: Head,
+    kinds: usize,
+    values: usize,
+    variables: usize,
+    zct: usize,
+    mrt: usize,
+    counts: usize,
+    log: usize,
+    work: usize,
+) -> bool
+    ensures { λ r. ⌜ Says r (Limits head × Lengths head kinds values variables zct mrt counts log work) ⌝ }
+{
+    if !head.within() {
+        return false;
+    }
+    if !lengths(head, kinds, values, variables, zct, mrt, counts, log, work) {
+        return false;
+    }
+    true
+}
+
+// The audit: 0 exactly when the heap is sound, 1 where a number or a length is outside its limits, else 4.
+pub fn audit(
+    head: Head,
+    kinds: &[u8],
+    values: &[i32],
+    variables: &[i32],
+    zct: &[u32],
+    mrt: &[u32],
+    counts: &[u32],
+    log: &[u32],
+    work: &mut [u32],
+) -> Outcome
+    ensures { λ r.
+        ⌜ leaves r (lent (now (kinds .entry)) (now (values .entry)) (now (variables .entry)) (now (zct .entry)) (now (mrt .entry)) (now (counts .entry)) (now (log .entry)) (now (work .exit)))
+        ≡ auditOf head (lent (now (kinds .entry)) (now (values .entry)) (now (variables .entry)) (now (zct .entry)) (now (mrt .entry)) (now (counts .entry)) (now (log .entry)) (now (work .entry))) ⌝ }
+{
+    if !sized(
+        head,
+        kinds.len(),
+        values.len(),
+        variables.len(),
+        zct.len(),
+        mrt.len(),
+        counts.len(),
+        log.len(),
+        work.len(),
+    ) {
+        return Outcome {
+            status: 1,
+            head: head,
+            count: 0,
+        };
+    }
+    if !sound(head, kinds, values, variables, zct, mrt, counts, log, work) {
+        return Outcome {
+            status: 4,
+            head: head,
+            count: 0,
+        };
+    }
+    Outcome {
+        status: 0,
+        head: head,
+        count: 0,
+    }
+}
