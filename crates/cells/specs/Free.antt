@@ -1,0 +1,16 @@
+-- What taking the first free cell leaves. Assumes nothing.
+use Prim.Native.Nat.{ℕ, _≤_}
+use mathlib.Core.Path.{_≡_}
+use mathlib.Core.List.{List}
+use lib.IntN.{ℤ}
+use Rattle.rules.specs.declared.Field.{Field}
+use Rattle.rules.specs.declared.Field.the-variants.{Nothing}
+use Rattle.rules.specs.Settle.{field, store}
+use Rattle.rules.specs.Step.{after}
+use Rattle.rules.specs.Rows.{Cells}
+
+-- the rows are fs with nothing in field 0 of a, and r is the free address after a
+pub record Taken (n : ℕ) (ks : List ℕ) (xs : List ℤ) (a r : ℕ) (fs : List Field) : Type 0 where
+  pub cells : Cells n ks xs (store fs a 0 Nothing)
+  pub next : r ≡ after (field fs a 0)
+  pub within : r ≤ n
