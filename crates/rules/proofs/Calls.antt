@@ -2,7 +2,7 @@
 use Prim.Native.Nat.{ℕ, zero, suc, _<_, _≤_}
 use mathlib.Core.Path.{_≡_, refl, sym, ap, _∙_, subst}
 use mathlib.Core.Logic.{_⊎_, inl, inr}
-use mathlib.Core.Bool.{Bool, true, false, _&&_, _||_, cond, false≢true}
+use mathlib.Core.Bool.{Bool, true, false, _&&_, _||_, cond, false≢true, or-true}
 use mathlib.Core.Option.{Option, none, some}
 use mathlib.Core.List.{List, [], _∷_, _++_, append-nil}
 use native.Mathlib.Omega.{arith}
@@ -20,6 +20,7 @@ use Rattle.rules.specs.Field.{Signed32}
 use Rattle.rules.specs.Rules.{Tables, Transaction, replay}
 use Rattle.rules.specs.Settle.{Shape, drops, holds, field, store}
 use Rattle.rules.specs.Call.{var, at, isHeld, isCell, want, orElse, check, makes, logs, write, hold, toCell, target, act, isBelow, isNought, isSigned32, given, number, callOf, andThen, callsOf, callsIn}
+use Rattle.rules.proofs.Fine.{Fine}
 use Rattle.rules.proofs.Invariant.{hit, refs, used, live, Counted, Good, Fitting, Small}
 use Rattle.rules.proofs.Exact.{gains, drop-counted, gain-counted}
 use Rattle.rules.proofs.Sorted.{small-append}
@@ -44,16 +45,6 @@ abbrev pub AllFit : Sizes → List Call → Type 0
 AllFit s [] = Unit {0}
 AllFit s (c ∷ cs) = (Fits s c) × (AllFit s cs)
 
--- the limits that the laws lean on
-pub record SizesOk (s : Sizes) : Type 0 where
-  pub cap-least : 3 ≤ s .cap
-  pub l-least : 2 ≤ s .l
-  pub n-least : 1 ≤ s .n
-
-pub or-right : (p : Bool) → (p || true) ≡ true
-or-right true = refl
-or-right false = refl
-
 -- ---- variables
 
 pub holds-set : (vs : List (Option ℕ)) (v : ℕ) (o : Option ℕ) (b : ℕ) → holds b (set vs v o) ≡ true → (o ≡ some b) ⊎ (holds b vs ≡ true)
@@ -62,13 +53,13 @@ holds-set (x ∷ vs) zero none b h = inr (skip x)
   where
     skip : (x : Option ℕ) → holds b (x ∷ vs) ≡ true
     skip none = h
-    skip (some c) = rw h (or-right (eqb b c))
+    skip (some c) = rw h (or-true (eqb b c))
 holds-set (x ∷ vs) zero (some a) b h = go (eqb b a) refl h x
   where
     go : (q : Bool) → eqb b a ≡ q → (q || holds b vs) ≡ true → (x : Option ℕ) → (some a ≡ some b) ⊎ (holds b (x ∷ vs) ≡ true)
     go true e h x = inl (ap some (sym (eqb-true b a e)))
     go false e h none = inr h
-    go false e h (some c) = inr (rw h (or-right (eqb b c)))
+    go false e h (some c) = inr (rw h (or-true (eqb b c)))
 holds-set (none ∷ vs) (suc v) o b h = holds-set vs v o b h
 holds-set (some c ∷ vs) (suc v) o b h = go (eqb b c) refl h (holds-set vs v o b)
   where
@@ -81,7 +72,7 @@ holds-var [] v a e = absurd (let w : _≡_ {A = ℕ} 0 1 = cc in omega arith)
 holds-var (none ∷ vs) zero a e = absurd (let w : _≡_ {A = ℕ} 0 1 = cc in omega arith)
 holds-var (some b ∷ vs) zero a e = let f : b ≡ a = cc in rw (eq-eqb a b (sym f))
 holds-var (none ∷ vs) (suc v) a e = holds-var vs v a e
-holds-var (some b ∷ vs) (suc v) a e = rw (holds-var vs v a e) (or-right (eqb a b))
+holds-var (some b ∷ vs) (suc v) a e = rw (holds-var vs v a e) (or-true (eqb a b))
 
 -- ---- what a check that finds nothing wrong says
 
@@ -152,7 +143,7 @@ act-variables Settle sh = refl
 
 -- ---- a shape that agrees with tables
 
-module _ (s : Sizes) (ok : SizesOk s) (sh : Shape) (t : Tables) (g : Good (s .n) (s .cap) (sh .fields) (sh .variables) t) where
+module _ (s : Sizes) (ok : Fine s) (sh : Shape) (t : Tables) (g : Good (s .n) (s .cap) (sh .fields) (sh .variables) t) where
   abbrev Stays : Shape → List Transaction → Type 0
   Stays sh′ l = Good (s .n) (s .cap) (sh′ .fields) (sh′ .variables) (replay (s .cap) l t)
 

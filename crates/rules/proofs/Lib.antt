@@ -16,3 +16,16 @@ pub mod Step
 pub mod Fresh
 pub mod Unique
 pub mod Whole
+pub mod Erase
+pub mod Alike
+pub mod Runs
+pub mod Figures
+pub mod Positions
+pub mod Bridge
+pub mod Entry
+pub mod Facts
+pub mod Demand2
+pub mod Sim
+pub mod EndlessRun
+pub mod AsEndless
+pub mod Demands

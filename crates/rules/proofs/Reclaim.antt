@@ -2,7 +2,7 @@
 use Prim.Native.Nat.{ℕ, zero, suc, _+_, _*_, _<_, _≤_}
 use mathlib.Core.Path.{_≡_, refl, sym, ap, _∙_, subst}
 use mathlib.Core.Logic.{_⊎_, inl, inr}
-use mathlib.Core.Bool.{Bool, true, false, _||_, cond, true≢false, false≢true}
+use mathlib.Core.Bool.{Bool, true, false, _||_, cond, true≢false, false≢true, or-true}
 use mathlib.Core.Option.{Option, none, some}
 use mathlib.Core.List.{List, [], _∷_, _++_}
 use native.Mathlib.Omega.{arith}
@@ -28,11 +28,7 @@ pick-some hs [] a e = absurd (let w : _≡_ {A = ℕ} 0 1 = cc in omega arith)
 pick-some hs (x ∷ z) a e = go (holds x hs) refl e (pick-some hs z a)
   where
     go : (p : Bool) → holds x hs ≡ p → cond p (pick hs z) (some x) ≡ some a → (pick hs z ≡ some a → (has a z ≡ true) × (holds a hs ≡ false)) → (has a (x ∷ z) ≡ true) × (holds a hs ≡ false)
-    go true d e h = (rw (h e .0) (or-right (eqb a x)), h e .1)
-      where
-        or-right : (p : Bool) → (p || true) ≡ true
-        or-right true = refl
-        or-right false = refl
+    go true d e h = (rw (h e .0) (or-true (eqb a x)), h e .1)
     go false d e h = let f : x ≡ a = cc in (rw (eq-eqb a x (sym f)), rw f at d)
 
 pub pick-none : (hs : List (Option ℕ)) (z : List ℕ) → pick hs z ≡ none → (a : ℕ) → has a z ≡ true → holds a hs ≡ true
@@ -419,3 +415,37 @@ module _ (n cap : ℕ) (cap3 : 3 ≤ cap) (hs : List (Option ℕ)) where
       let at : (f : ℕ) → f < 2 → Small n (drops (field (h .shape .fields) a f)) = λ f i. drops-small n cap (h .shape .fields) hs (h .tables) g a f i l in
       replay-kept n cap cap3 (drops (field (h .shape .fields) a 0) ++ drops (field (h .shape .fields) a 1)) (leaveZct a (h .tables)) (leaveZct-kept n cap cap3 (h .tables) p a)
       (small-append n (drops (field (h .shape .fields) a 0)) (drops (field (h .shape .fields) a 1)) (at 0 (omega arith)) (at 1 (omega arith))))
+
+  -- a cell that is freed was taken at one of the turns
+  pub taken-when : (h : Heap) → G h → (a : ℕ) → live (h .shape .fields) a ≡ true → (k : ℕ) → live (reclaim cap hs k h .shape .fields) a ≡ false
+      → (j : ℕ) × ((j < k) × (pick hs (reclaim cap hs j h .tables .zct) ≡ some a))
+  unfolding reclaim
+  taken-when h g a l zero d = absurd (true≢false (sym l ∙ d))
+  taken-when h g a l (suc k) d = go (live (R .shape .fields) a) refl (taken-when h g a l k)
+    where
+      R : Heap
+      R = reclaim cap hs k h
+
+      same : (b : ℕ) (q : Bool) → pick hs (R .tables .zct) ≡ some b → eqb a b ≡ q → live (R .shape .fields) a ≡ true → cond q false (live (R .shape .fields) a) ≡ false → pick hs (R .tables .zct) ≡ some a
+      same b true e f l d = let x = eqb-true a b f in cc
+      same b false e f l d = absurd (true≢false (sym l ∙ d))
+
+      turn : (o : Option ℕ) → pick hs (R .tables .zct) ≡ o → live (R .shape .fields) a ≡ true → live (onPick o R (λ b. freeCell cap b R) .shape .fields) a ≡ false → pick hs (R .tables .zct) ≡ some a
+      turn none e l d = absurd (true≢false (sym l ∙ d))
+      turn (some b) e l d = same b (eqb a b) e refl l (sym (freeCell-lives R (reclaim-still-good k h g) b e a) ∙ d)
+
+      go : (q : Bool) → live (R .shape .fields) a ≡ q → (live (R .shape .fields) a ≡ false → (j : ℕ) × ((j < k) × (pick hs (reclaim cap hs j h .tables .zct) ≡ some a)))
+          → (j : ℕ) × ((j < suc k) × (pick hs (reclaim cap hs j h .tables .zct) ≡ some a))
+      go false e ih = let r = ih e in (r .0, (let x = r .1 .0 in omega arith, r .1 .1))
+      go true e ih = (k, (omega arith, turn (pick hs (R .tables .zct)) refl e (ap (λ x. live (x .shape .fields) a) (sym (reclaim-last cap hs k h)) ∙ d)))
+
+  -- reclaiming takes no cell into use
+  pub reclaim-live : (k : ℕ) (h : Heap) → G h → (b : ℕ) → live (reclaim cap hs k h .shape .fields) b ≡ true → live (h .shape .fields) b ≡ true
+  reclaim-live k h g =
+      reclaim-keeps (λ h′. (b : ℕ) → live (h′ .shape .fields) b ≡ true → live (h .shape .fields) b ≡ true)
+      (λ j a g e p b l. p b (was (eqb b a) (sym (freeCell-lives j g a e b) ∙ l)))
+      k h g (λ b l. l)
+    where
+      was : (q : Bool) {x : Bool} → cond q false x ≡ true → x ≡ true
+      was true e = absurd (false≢true e)
+      was false e = e

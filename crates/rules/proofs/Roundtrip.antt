@@ -20,6 +20,7 @@ use Rattle.rules.specs.Step.{Result, batch}
 use Rattle.rules.specs.Rows.{Lent, lent, words, rowsOf, headOf, fieldsOf, entriesOf, heapOf}
 use Rattle.rules.specs.Sound.{Word, Live, Mark, Variable, ZeroFrom, Sound, Lengths, Sized}
 use Rattle.rules.specs.Refusals.{cleared}
+use Rattle.rules.proofs.Positions.{Half, half}
 use Rattle.rules.proofs.Invariant.{Chain, Frees, Inv, Ended}
 use Rattle.rules.proofs.Fine.{Fine}
 
@@ -89,21 +90,6 @@ word-fits n ks a f (suc (suc zero)) (negsuc b) w = absurd (let h = w .cell in om
 word-fits n ks a f (suc (suc (suc zero))) (pos b) w = (refl, refl)
 word-fits n ks a f (suc (suc (suc zero))) (negsuc b) w = absurd (let h = w .next in omega arith)
 word-fits n ks a f (suc (suc (suc (suc k)))) v w = absurd w
-
--- the cell and the field that a place is of
-pub record Half (i : ℕ) : Type 0 where
-  pub cell : ℕ
-  pub part : ℕ
-  pub is : i ≡ 2 * cell + part
-  pub small : part < 2
-
-pub half : (i : ℕ) → Half i
-half zero = record { cell = 0; part = 0; is = refl; small = omega arith }
-half (suc zero) = record { cell = 0; part = 1; is = refl; small = omega arith }
-half (suc (suc i)) =
-    let h = half i in
-    let e = h .is in
-    record { cell = suc (h .cell); part = h .part; is = omega arith; small = h .small }
 
 -- every place of the two rows fits
 abbrev Fits : List ℕ → List ℤ → Type 0

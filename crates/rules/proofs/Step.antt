@@ -19,12 +19,13 @@ use Rattle.rules.specs.Settle.{Shape, Heap, holds, place, store, replaye
 use Rattle.rules.specs.Call.{var, check, logs, hold}
 use Rattle.rules.specs.Step.{Stepped, done, refused, settledIf, full, noneFree, takeCell, doNew, doSettle, doCall, room, run, step, calls, batch}
 use Rattle.rules.specs.Rows.{Kept}
+use Rattle.rules.proofs.Fine.{Fine}
 use Rattle.rules.proofs.Invariant.{refs, live, view, Counted, Good, Frees, Small, Inv, Done, Ended}
 use Rattle.rules.proofs.Tables.{view-own, view-other, change}
 use Rattle.rules.proofs.Sorted.{replay-kept, small-append}
 use Rattle.rules.proofs.Reclaim.{live-store-0, refs-store, length-store, replay-append, lives, lives-le, Plain1, Figures, plain-store, plain-store-0, figures-store, reclaim-good, reclaim-log, reclaim-variables, reclaim-sum, reclaim-plain, reclaim-figures, reclaim-kept}
 use Rattle.rules.proofs.FreeList.{Taken, frees-store, frees-take, reclaim-frees}
-use Rattle.rules.proofs.Calls.{Fits, AllFit, SizesOk, holds-set, call-good, act-keeps, act-variables, logs-small, logs-long, store-live}
+use Rattle.rules.proofs.Calls.{Fits, AllFit, holds-set, call-good, act-keeps, act-variables, logs-small, logs-long, store-live}
 
 -- a call's check looks at the variables alone
 abbrev pub SameCheck : Call → Type 0
@@ -32,7 +33,7 @@ SameCheck c = (a b : Shape) → a .variables ≡ b .variables → check c a ≡ 
 
 -- ---- a settle that counts any holds
 
-module _ (s : Sizes) (ok : SizesOk s) (hs : List (Option ℕ)) (h : Heap)
+module _ (s : Sizes) (ok : Fine s) (hs : List (Option ℕ)) (h : Heap)
     (g : Good (s .n) (s .cap) (h .shape .fields) hs (replay (s .cap) (h .log) (h .tables))) where
   few : lives (h .shape .fields) ≤ s .n
   few = let l = lives-le (h .shape .fields) in let e = g .len in omega arith
@@ -73,7 +74,7 @@ module _ (s : Sizes) (ok : SizesOk s) (hs : List (Option ℕ)) (h : Heap)
   unfolding settledBy replayed
   settledBy-figures = reclaim-figures (s .n) (s .cap) (ok .cap-least) hs (s .n) (replayed (s .cap) h) g
 
-module _ (s : Sizes) (ok : SizesOk s) where
+module _ (s : Sizes) (ok : Fine s) where
   -- ---- settle
 
   pub settled-done : (h : Heap) → Inv s h → (Done (h .shape .variables) (settled s h)) × ((settled s h .log ≡ []) × (settled s h .shape .variables ≡ h .shape .variables))

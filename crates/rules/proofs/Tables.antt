@@ -13,10 +13,6 @@ use Rattle.rules.proofs.Invariant.{View, view, countOf, countV, count, 
 pub eqb-self : (a : ℕ) → eqb a a ≡ true
 eqb-self a = eq-eqb a a refl
 
-or-right : (p : Bool) → (p || true) ≡ true
-or-right true = refl
-or-right false = refl
-
 -- ---- each table at the address of the change, and at any other
 
 pub insert-own : (a : ℕ) (z : List ℕ) → has a (insert a z) ≡ true

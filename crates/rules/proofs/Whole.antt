@@ -1,7 +1,7 @@
 -- The rows of a heap that keeps the invariant are that heap, and rows that are a heap are those written down for it. Assumes nothing.
 use Prim.Native.Nat.{ℕ, zero, suc, _+_, _*_, _-_, _≤_, _<_}
 use mathlib.Core.Path.{_≡_, refl, sym, ap, _∙_, subst}
-use mathlib.Core.Bool.{Bool, true, false, cond, _||_, true≢false}
+use mathlib.Core.Bool.{Bool, true, false, cond, _||_, true≢false, or-true}
 use mathlib.Core.Option.{Option, none, some}
 use mathlib.Core.List.{List, [], _∷_, _++_, map}
 use native.Mathlib.Omega.{arith}
@@ -25,7 +25,9 @@ use Rattle.rules.proofs.Invariant.{hit, refs, used, live, Counted, Good
 use Rattle.rules.proofs.Tables.{eqb-self}
 use Rattle.rules.proofs.Reclaim.{live-below}
 use Rattle.rules.proofs.Fine.{Fine, fine-of}
-use Rattle.rules.proofs.Roundtrip.{Half, half, length-pad, length-words, mark-there, chain-within, first-within, zct-fits, addresses-fit, counts-fit, log-fits, head-of-heap, rows-of-heap}
+use Rattle.rules.proofs.Calls.{holds-var}
+use Rattle.rules.proofs.Positions.{Half, half}
+use Rattle.rules.proofs.Roundtrip.{length-pad, length-words, mark-there, chain-within, first-within, zct-fits, addresses-fit, counts-fit, log-fits, head-of-heap, rows-of-heap}
 
 -- ---- what fields and variables name is inside
 
@@ -53,17 +55,6 @@ chain-next fs n e from (x ∷ l) c a b t f = go (eqb a x) refl t (λ k. chain-ne
         let w = chain-within fs n e (c .1 .0) l (c .1 .3) in
         omega arith
     go false d t ih = ih (omega arith)
-
-holds-at : (hs : List (Option ℕ)) (v a : ℕ) → getD hs v none ≡ some a → holds a hs ≡ true
-holds-at [] v a e = absurd (let z : _≡_ {A = ℕ} 0 1 = cc in omega arith)
-holds-at (none ∷ hs) zero a e = absurd (let z : _≡_ {A = ℕ} 0 1 = cc in omega arith)
-holds-at (none ∷ hs) (suc v) a e = holds-at hs v a e
-holds-at (some b ∷ hs) zero a e = let f : b ≡ a = cc in rw (f, eqb-self a)
-holds-at (some b ∷ hs) (suc v) a e = rw (holds-at hs v a e) (or-right (eqb a b))
-  where
-    or-right : (p : Bool) → (p || true) ≡ true
-    or-right true = refl
-    or-right false = refl
 
 module _ {s : Sizes} {h : Heap} (I : Inv s h) where
   -- a pointer names a cell in use
@@ -108,7 +99,7 @@ module _ {s : Sizes} {h : Heap} (I : Inv s h) where
       go (Free b) e = mark-inside i b e
 
   pub held-inside : (v a : ℕ) → getD (h .shape .variables) v none ≡ some a → a < s .n
-  held-inside v a e = live-below (s .n) (h .shape .fields) (I .good .len) a (I .good .held a (holds-at (h .shape .variables) v a e))
+  held-inside v a e = live-below (s .n) (h .shape .fields) (I .good .len) a (I .good .held a (holds-var (h .shape .variables) v a e))
 
 -- ---- the log's row
 

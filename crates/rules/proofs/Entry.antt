@@ -1,0 +1,78 @@
+-- Rows that pass the checks are those of a heap at a batch's end, and so are the rows that an accepted batch leaves. Assumes nothing.
+use Prim.Native.Nat.{ℕ, zero, suc, _+_, _*_}
+use mathlib.Core.Path.{_≡_, refl, sym, ap, _∙_, subst₂}
+use mathlib.Core.List.{List, [], _∷_, map}
+use native.Mathlib.Omega.{arith}
+use lib.IntN.{ℤ}
+use lib.ListN.{length, length-map}
+use Rattle.rules.specs.declared.Head.{Head}
+use Rattle.rules.specs.declared.Call.{Call}
+use Rattle.rules.specs.Head.{Sizes, sizesOf}
+use Rattle.rules.specs.Field.{heldOf}
+use Rattle.rules.specs.Settle.{Heap}
+use Rattle.rules.specs.Step.{batch}
+use Rattle.rules.specs.Rows.{Lent, fieldsOf, rowsOf, headOf, heapOf}
+use Rattle.rules.specs.Sound.{Sound, Sized}
+use Rattle.rules.specs.Refusals.{Batched, cleared, accepted, batchOf}
+use Rattle.rules.specs.Demands.{Callable}
+use Rattle.rules.proofs.Invariant.{Inv, Ended}
+use Rattle.rules.proofs.Fine.{Fine, fine-of}
+use Rattle.rules.proofs.Calls.{AllFit, calls-in-fit}
+use Rattle.rules.proofs.Step.{batch-ended}
+use Rattle.rules.proofs.Roundtrip.{sized-of-ended, rows-of-heap, head-of-heap}
+use Rattle.rules.proofs.Bridge.{Plain, ended-sound, sound-ended}
+use Rattle.rules.proofs.Demand1.{Taken, taken}
+
+fields-long : (ks : List ℕ) (vs : List ℤ) → length ks ≡ length vs → length (fieldsOf ks vs) ≡ length ks
+fields-long [] vs e = refl
+fields-long (k ∷ ks) [] e = absurd (omega arith)
+fields-long (k ∷ ks) (v ∷ vs) e = ap suc (fields-long ks vs (omega arith))
+
+-- soundness does not look at the work row
+sound-cleared : {h : Head} {r : Lent} → Sound h r → Sound h (cleared h r)
+sound-cleared S =
+    record {
+      words = S .words;
+      variables = S .variables;
+      zct-row = S .zct-row;
+      mrt-row = S .mrt-row;
+      zct-zeros = S .zct-zeros;
+      mrt-zeros = S .mrt-zeros;
+      counts-zeros = S .counts-zeros;
+      free-list = S .free-list;
+      apart = S .apart;
+      one = S .one;
+      none = S .none;
+      held = S .held;
+      exact = S .exact;
+      ranged = S .ranged;
+      log-zero = S .log-zero;
+    }
+
+module _ {h : Head} {r : Lent} (Z : Sized h r) (S : Sound h r) where
+  plain : Plain (sizesOf h) (heapOf h r)
+  unfolding heapOf
+  plain =
+      let L = Z .lengths in
+      record {
+        fields-long = let a = L .for-kinds in let b = L .for-values in fields-long (r .kinds) (r .values) (omega arith) ∙ a;
+        variables-long = simp length-map (L .for-variables);
+        log-none = refl;
+      }
+
+  pub entry-ended : Ended (sizesOf h) (heapOf h r)
+  entry-ended =
+      sound-ended (sizesOf h) (fine-of (Z .limits)) (heapOf h r) plain
+      (rw (head-of-heap Z, rows-of-heap Z S) (sound-cleared S))
+
+  module _ (cs : List Call) (F : AllFit (sizesOf h) cs) where
+    pub exit-ended : Ended (sizesOf h) (batch (sizesOf h) cs (heapOf h r) .heap)
+    exit-ended = batch-ended (sizesOf h) (fine-of (Z .limits)) cs (heapOf h r) (entry-ended .inv) F
+
+    pub exit-sized : (row : List ℤ) → Sized (accepted h r cs row .outcome .head) (accepted h r cs row .rows)
+    unfolding accepted
+    exit-sized row = sized-of-ended (fine-of (Z .limits)) exit-ended
+
+    pub exit-sound : (row : List ℤ) → Sound (accepted h r cs row .outcome .head) (accepted h r cs row .rows)
+    unfolding accepted
+    exit-sound row = ended-sound (sizesOf h) (fine-of (Z .limits)) (batch (sizesOf h) cs (heapOf h r) .heap) exit-ended

@@ -1,0 +1,470 @@
+-- A heap against the endless heap: the same answers, through a renaming of the cells in use. Assumes nothing.
+use Prim.Native.Nat.{ℕ, zero, suc, _+_, _*_, _<_}
+use mathlib.Core.Path.{_≡_, refl, sym, ap, ap₂, _∙_}
+use mathlib.Core.Logic.{_⊎_, inl, inr}
+use mathlib.Core.Bool.{Bool, true, false, _||_, or-true, cond, true≢false}
+use mathlib.Core.Option.{Option, none, some}
+use mathlib.Core.List.{List, [], _∷_, _++_, map}
+use native.Mathlib.Omega.{arith}
+use lib.Dec.{eqb}
+use lib.IntN.{pos}
+use lib.ListN.{replicate, length, getD, set, List·getD-map, List·getD-append, length-append}
+use lib.Seq.{getD-append-add}
+use borrow.Author.Tests.{eqb-true, eqb-false, eq-eqb, ne-eqb}
+use Rattle.rules.specs.declared.Field.{Field}
+use Rattle.rules.specs.declared.Field.the-variants.{Nothing, Figure, Cell, Free}
+use Rattle.rules.specs.declared.Call.{Call}
+use Rattle.rules.specs.declared.Call.the-variants.{New, Copy, Clear, Link, Put, Blank, Follow, Read, Same, Settle}
+use Rattle.rules.specs.Head.{Sizes}
+use Rattle.rules.specs.Rules.{Tables, replay}
+use Rattle.rules.specs.Settle.{Shape, Heap, holds, pick, place, field, store, freeCell, replayed, settledBy, settled}
+use Rattle.rules.specs.Call.{var, at, isHeld, isCell, isFigure, want, check, logs, write, hold, toCell, target, act, figureOf, sameCell, value, answer}
+use Rattle.rules.specs.Step.{Stepped, done, refused, settledIf, full, noneFree, takeCell, doNew, doSettle, doCall, room, run, step, fresh}
+use Rattle.rules.specs.Endless.{Endless, endless, EndlessStep, endlessRun, endlessStep}
+use Rattle.rules.specs.Run.{NotSettle}
+use Rattle.rules.proofs.Fine.{Fine}
+use Rattle.rules.proofs.Invariant.{used, live, Good, Inv}
+use Rattle.rules.proofs.Tables.{eqb-self}
+use Rattle.rules.proofs.Reclaim.{place-in, cell-live, live-store-0, length-store, freeCell-lives, reclaim-keeps}
+use Rattle.rules.proofs.FreeList.{Taken, field-other, field-same, field-across}
+use Rattle.rules.proofs.Calls.{Fits, held-11, two-11, toCell-used, var-live, store-live}
+use Rattle.rules.proofs.Step.{settledIf-inv, taken}
+use Rattle.rules.proofs.Fresh.{dead}
+
+abbrev pub ren : (ℕ → ℕ) → Option ℕ → Option ℕ
+ren ρ none = none
+ren ρ (some a) = some (ρ a)
+
+abbrev pub renF : (ℕ → ℕ) → Field → Field
+renF ρ Nothing = Nothing
+renF ρ (Figure x) = Figure x
+renF ρ (Cell a) = Cell (ρ a)
+renF ρ (Free a) = Free a
+
+pub record Sim (ρ : ℕ → ℕ) (h : Shape) (e : Endless) : Type 0 where
+  pub vars : e .shape .variables ≡ map (ren ρ) (h .variables)
+  pub cells : (a f : ℕ) → live (h .fields) a ≡ true → f < 2 → field (e .shape .fields) (ρ a) f ≡ renF ρ (field (h .fields) a f)
+  pub inj : (a b : ℕ) → live (h .fields) a ≡ true → live (h .fields) b ≡ true → ρ a ≡ ρ b → a ≡ b
+  pub below : (a : ℕ) → live (h .fields) a ≡ true → ρ a < e .next
+  pub len : length (e .shape .fields) ≡ 2 * e .next
+
+map-set : (f : Option ℕ → Option ℕ) (l : List (Option ℕ)) (i : ℕ) (x : Option ℕ) → map f (set l i x) ≡ set (map f l) i (f x)
+map-set f [] i x = refl
+map-set f (y ∷ l) zero x = refl
+map-set f (y ∷ l) (suc i) x = ap (λ t. f y ∷ t) (map-set f l i x)
+
+abbrev NotNew : Call → Type 0
+NotNew (New v) = ⊥
+NotNew (Copy v w) = Unit {0}
+NotNew (Clear v) = Unit {0}
+NotNew (Link v f w) = Unit {0}
+NotNew (Put v f x) = Unit {0}
+NotNew (Blank v f) = Unit {0}
+NotNew (Follow v f w) = Unit {0}
+NotNew (Read v f) = Unit {0}
+NotNew (Same v w) = Unit {0}
+NotNew Settle = Unit {0}
+
+module _ (s : Sizes) (ok : Fine s) (h : Shape) (t : Tables) (g : Good (s .n) (s .cap) (h .fields) (h .variables) t) (ρ : ℕ → ℕ) (e : Endless) (R : Sim ρ h e) where
+  var-ren : (v : ℕ) → var (e .shape) v ≡ ren ρ (var h v)
+  unfolding var
+  var-ren v = rw (R .vars) (List·getD-map (ren ρ) (h .variables) v none)
+
+  held-ren : (o : Option ℕ) → isHeld (ren ρ o) ≡ isHeld o
+  unfolding isHeld
+  held-ren none = refl
+  held-ren (some a) = refl
+
+  held-same : (v : ℕ) → isHeld (var (e .shape) v) ≡ isHeld (var h v)
+  held-same v = ap isHeld (var-ren v) ∙ held-ren (var h v)
+
+  at-ren : (v f : ℕ) → f < 2 → at (e .shape) v f ≡ renF ρ (at h v f)
+  unfolding at
+  at-ren v f k = rw (var-ren v, at) (go (var h v) refl)
+    where
+      atOf : List Field → Option ℕ → Field
+      atOf fs o = elim o [ none ↦ Nothing | some a ↦ field fs a f ]
+
+      go : (o : Option ℕ) → var h v ≡ o → atOf (e .shape .fields) (ren ρ o) ≡ renF ρ (atOf (h .fields) o)
+      go none d = refl
+      go (some a) d = R .cells a f (var-live s ok h t g v a d) k
+
+  cell-ren : (x : Field) → isCell (renF ρ x) ≡ isCell x
+  unfolding isCell
+  cell-ren Nothing = refl
+  cell-ren (Figure x) = refl
+  cell-ren (Cell a) = refl
+  cell-ren (Free a) = refl
+
+  figure-ren : (x : Field) → (isFigure (renF ρ x) ≡ isFigure x) × (figureOf (renF ρ x) ≡ figureOf x)
+  unfolding isFigure figureOf
+  figure-ren Nothing = (refl, refl)
+  figure-ren (Figure x) = (refl, refl)
+  figure-ren (Cell a) = (refl, refl)
+  figure-ren (Free a) = (refl, refl)
+
+  check-same : (c : Call) → Fits s c → check c (e .shape) ≡ check c h
+  unfolding check
+  check-same (New v) f = refl
+  check-same (Copy v w) f = refl
+  check-same (Clear v) f = refl
+  check-same (Link v f w) k = rw (held-same v, held-same w)
+  check-same (Put v f x) k = rw (held-same v)
+  check-same (Blank v f) k = rw (held-same v)
+  check-same (Follow v f w) k = rw (held-same v, at-ren v f (k .0), cell-ren (at h v f))
+  check-same (Read v f) k = rw (held-same v, at-ren v f (k .0), figure-ren (at h v f) .0)
+  check-same (Same v w) f = rw (held-same v, held-same w)
+  check-same Settle f = refl
+
+  same-ren : (v w : ℕ) → sameCell (var (e .shape) v) (var (e .shape) w) ≡ sameCell (var h v) (var h w)
+  unfolding sameCell
+  same-ren v w = rw (var-ren v, var-ren w) (go (var h v) (var h w) refl refl)
+    where
+      go : (o p : Option ℕ) → var h v ≡ o → var h w ≡ p → sameCell (ren ρ o) (ren ρ p) ≡ sameCell o p
+      go none p d d′ = refl
+      go (some a) none d d′ = refl
+      go (some a) (some b) d d′ = at (eqb a b) refl
+        where
+          at : (q : Bool) → eqb a b ≡ q → eqb (ρ a) (ρ b) ≡ q
+          at true m = eq-eqb (ρ a) (ρ b) (ap ρ (eqb-true a b m))
+          at false m = ne-eqb (ρ a) (ρ b) (λ i. eqb-false a b m (R .inj a b (var-live s ok h t g v a d) (var-live s ok h t g w b d′) i))
+
+  value-same : (c : Call) → Fits s c → value c (e .shape) ≡ value c h
+  unfolding value
+  value-same (New v) f = refl
+  value-same (Copy v w) f = refl
+  value-same (Clear v) f = refl
+  value-same (Link v f w) k = refl
+  value-same (Put v f x) k = refl
+  value-same (Blank v f) k = refl
+  value-same (Follow v f w) k = refl
+  value-same (Read v f) k = rw (at-ren v f (k .0), figure-ren (at h v f) .1)
+  value-same (Same v w) f = rw (same-ren v w)
+  value-same Settle f = refl
+
+  -- ---- what the calls do
+
+  sim-hold : (v : ℕ) (o o′ : Option ℕ) → o′ ≡ ren ρ o → Sim ρ (hold h v o) (record { shape = hold (e .shape) v o′; next = e .next })
+  unfolding hold
+  sim-hold v o o′ p = record { vars = rw (p, R .vars) (sym (map-set (ren ρ) (h .variables) v o)); cells = R .cells; inj = R .inj; below = R .below; len = R .len }
+
+  sim-store : (a f : ℕ) (x x′ : Field) → f < 2 → live (h .fields) a ≡ true → used x ≡ true → x′ ≡ renF ρ x
+      → Sim ρ (record { fields = store (h .fields) a f x; variables = h .variables }) (record { shape = record { fields = store (e .shape .fields) (ρ a) f x′; variables = e .shape .variables }; next = e .next })
+  unfolding place
+  sim-store a f x x′ k l u p =
+      record {
+        vars = R .vars;
+        cells = λ b j lb kj. each b j (rw (sl b) at lb) kj (eqb b a) refl (eqb j f) refl;
+        inj = λ b c lb lc. R .inj b c (rw (sl b) at lb) (rw (sl c) at lc);
+        below = λ b lb. R .below b (rw (sl b) at lb);
+        len = rw length-store (R .len);
+      }
+    where
+      sl : (b : ℕ) → live (store (h .fields) a f x) b ≡ live (h .fields) b
+      sl = store-live s ok h t g a f x k l u
+
+      in-h : place a f < length (h .fields)
+      in-h = place-in (s .n) (h .fields) (g .len) a f k l
+
+      in-e : place (ρ a) f < length (e .shape .fields)
+      in-e = let q = R .below a l in let m = R .len in omega arith
+
+      each : (b j : ℕ) → live (h .fields) b ≡ true → j < 2 → (q : Bool) → eqb b a ≡ q → (r : Bool) → eqb j f ≡ r
+          → field (store (e .shape .fields) (ρ a) f x′) (ρ b) j ≡ renF ρ (field (store (h .fields) a f x) b j)
+      each b j lb kj true d true d′ =
+          rw (eqb-true b a d, eqb-true j f d′, field-same (e .shape .fields) (ρ a) f x′ in-e, field-same (h .fields) a f x in-h) p
+      each b j lb kj true d false d′ =
+          rw (eqb-true b a d, field-across (e .shape .fields) (ρ a) f j x′ k kj (eqb-false j f d′), field-across (h .fields) a f j x k kj (eqb-false j f d′)) (R .cells a j l kj)
+      each b j lb kj false d r d′ =
+          rw (
+            field-other (e .shape .fields) (ρ a) (ρ b) f j x′ (ne-eqb (ρ b) (ρ a) (λ i. eqb-false b a d (R .inj b a lb l i))) k kj,
+            field-other (h .fields) a b f j x d k kj,
+          )
+          (R .cells b j lb kj)
+
+  sim-write : (v f : ℕ) (x x′ : Field) → f < 2 → want (isHeld (var h v)) 11 ≡ 0 → used x ≡ true → x′ ≡ renF ρ x
+      → Sim ρ (write h v f x) (record { shape = write (e .shape) v f x′; next = e .next })
+  unfolding write
+  sim-write v f x x′ k c u p =
+      let w = held-11 (var h v) c in
+      let w′ : var (e .shape) v ≡ some (ρ (w .0)) = var-ren v ∙ ap (ren ρ) (w .1) in
+      rw (w .1, w′, write) (sim-store (w .0) f x x′ k (var-live s ok h t g v (w .0) (w .1)) u p)
+
+  toCell-ren : (o : Option ℕ) → toCell (ren ρ o) ≡ renF ρ (toCell o)
+  unfolding toCell
+  toCell-ren none = refl
+  toCell-ren (some a) = refl
+
+  target-ren : (x : Field) → target (renF ρ x) ≡ ren ρ (target x)
+  unfolding target
+  target-ren Nothing = refl
+  target-ren (Figure x) = refl
+  target-ren (Cell a) = refl
+  target-ren (Free a) = refl
+
+  sim-act : (c : Call) → NotNew c → Fits s c → check c h ≡ 0 → Sim ρ (act c h) (endlessRun c e)
+  unfolding act endlessRun check
+  sim-act (New v) nn f d = absurd nn
+  sim-act (Copy v w) nn f d = sim-hold v (var h w) (var (e .shape) w) (var-ren w)
+  sim-act (Clear v) nn f d = sim-hold v none none refl
+  sim-act (Link v f w) nn k d =
+      let p = two-11 (isHeld (var h v)) (isHeld (var h w)) d in
+      sim-write v f (toCell (var h w)) (toCell (var (e .shape) w)) (k .0) (p .0) (toCell-used (var h w)) (ap toCell (var-ren w) ∙ toCell-ren (var h w))
+  sim-act (Put v f x) nn k d = sim-write v f (Figure x) (Figure x) (k .0) d refl refl
+  sim-act (Blank v f) nn k d = sim-write v f Nothing Nothing (k .0) d refl refl
+  sim-act (Follow v f w) nn k d = sim-hold w (target (at h v f)) (target (at (e .shape) v f)) (ap target (at-ren v f (k .0)) ∙ target-ren (at h v f))
+  sim-act (Read v f) nn k d = R
+  sim-act (Same v w) nn f d = R
+  sim-act Settle nn f d = R
+
+-- fewer cells in use, with the fields that they had
+sim-less : (ρ : ℕ → ℕ) (h h′ : Shape) (e : Endless) → h′ .variables ≡ h .variables → ((b : ℕ) → live (h′ .fields) b ≡ true → live (h .fields) b ≡ true)
+    → ((b f : ℕ) → live (h′ .fields) b ≡ true → f < 2 → field (h′ .fields) b f ≡ field (h .fields) b f) → Sim ρ h e → Sim ρ h′ e
+sim-less ρ h h′ e v l f R =
+    record {
+      vars = R .vars ∙ ap (map (ren ρ)) (sym v);
+      cells = λ a j k m. R .cells a j (l a k) m ∙ ap (renF ρ) (sym (f a j k m));
+      inj = λ a b p q. R .inj a b (l a p) (l b q);
+      below = λ a p. R .below a (l a p);
+      len = R .len;
+    }
+
+pub sim-settled : (s : Sizes) → Fine s → (h : Heap) → Inv s h → (ρ : ℕ → ℕ) (e : Endless) → Sim ρ (h .shape) e → Sim ρ (settled s h .shape) e
+unfolding settled settledBy replayed freeCell
+sim-settled s ok h g ρ e R = reclaim-keeps (s .n) (s .cap) (ok .cap-least) hs (λ k. Sim ρ (k .shape) e) turn (s .n) (replayed (s .cap) h) (g .good) R
+  where
+    hs : List (Option ℕ)
+    hs = h .shape .variables
+
+    turn : (h : Heap) (a : ℕ) → Good (s .n) (s .cap) (h .shape .fields) hs (h .tables) → pick hs (h .tables .zct) ≡ some a → Sim ρ (h .shape) e → Sim ρ (freeCell (s .cap) a h .shape) e
+    turn h a g p R = sim-less ρ (h .shape) (freeCell (s .cap) a h .shape) e refl (λ b l. was b l (eqb b a) refl .0) (λ b f l k. was b l (eqb b a) refl .1 f k) R
+      where
+        lives : (b : ℕ) → live (freeCell (s .cap) a h .shape .fields) b ≡ cond (eqb b a) false (live (h .shape .fields) b)
+        lives = freeCell-lives (s .n) (s .cap) (ok .cap-least) hs h g a p
+
+        was : (b : ℕ) → live (freeCell (s .cap) a h .shape .fields) b ≡ true → (q : Bool) → eqb b a ≡ q
+            → (live (h .shape .fields) b ≡ true) × ((f : ℕ) → f < 2 → field (freeCell (s .cap) a h .shape .fields) b f ≡ field (h .shape .fields) b f)
+        was b l true d = absurd (true≢false (sym l ∙ lives b ∙ rw d))
+        was b l false d = (
+          rw (lives b, d) at l,
+          λ f k. field-other (store (h .shape .fields) a 0 (Free (h .first))) a b 1 f Nothing d (omega arith) k ∙ field-other (h .shape .fields) a b 0 f (Free (h .first)) d (omega arith) k,
+        )
+
+map-agree : (ρ σ : ℕ → ℕ) (vs : List (Option ℕ)) → ((a : ℕ) → holds a vs ≡ true → σ a ≡ ρ a) → map (ren ρ) vs ≡ map (ren σ) vs
+map-agree ρ σ [] p = refl
+map-agree ρ σ (none ∷ vs) p = ap (λ l. none ∷ l) (map-agree ρ σ vs p)
+map-agree ρ σ (some b ∷ vs) p = ap₂ (λ (x : ℕ) l. some x ∷ l) (sym (p b (rw (eqb-self b)))) (map-agree ρ σ vs (λ a k. p a (rw k (or-true (eqb a b)))))
+
+field-append : (l r : List Field) (a f : ℕ) → place a f < length l → field (l ++ r) a f ≡ field l a f
+unfolding field
+field-append l r a f h = List·getD-append l r Nothing (place a f) h
+
+new-field : (l : List Field) (k f : ℕ) → length l ≡ 2 * k → f < 2 → field (l ++ (Nothing ∷ Nothing ∷ [])) k f ≡ Nothing
+unfolding field place
+new-field l k f e h = rw (← e, getD-append-add) (go f h)
+  where
+    go : (f : ℕ) → f < 2 → getD (Nothing ∷ Nothing ∷ []) f Nothing ≡ Nothing
+    go zero h = refl
+    go (suc zero) h = refl
+    go (suc (suc f)) h = absurd (omega arith)
+
+module _ (s : Sizes) (ok : Fine s) (h : Heap) (g : Inv s h) (d : noneFree s h ≡ false) (ρ : ℕ → ℕ) (e : Endless) (R : Sim ρ (h .shape) e) where
+  abbrev extend : ℕ → ℕ
+  extend b = cond (eqb b (h .first)) (e .next) (ρ b)
+
+  Tk : Taken (s .n) (h .shape .fields) (h .first) (g .good .len) (g .frees)
+  Tk = taken s ok h g d
+
+  not-first : (b : ℕ) → live (h .shape .fields) b ≡ true → eqb b (h .first) ≡ false
+  not-first b l = ne-eqb b (h .first) (λ i. true≢false (sym l ∙ ap (live (h .shape .fields)) i ∙ Tk .was-free))
+
+  extend-live : (b : ℕ) → live (h .shape .fields) b ≡ true → extend b ≡ ρ b
+  extend-live b l = rw (not-first b l)
+
+  extend-first : extend (h .first) ≡ e .next
+  extend-first = rw (eqb-self (h .first))
+
+  extend-field : (a f : ℕ) → f < 2 → live (h .shape .fields) a ≡ true → renF ρ (field (h .shape .fields) a f) ≡ renF extend (field (h .shape .fields) a f)
+  extend-field a f k l = go (field (h .shape .fields) a f) refl
+    where
+      go : (x : Field) → field (h .shape .fields) a f ≡ x → renF ρ x ≡ renF extend x
+      go Nothing i = refl
+      go (Figure x) i = refl
+      go (Cell c) i = ap Cell (sym (extend-live c (cell-live (s .n) (s .cap) (h .shape .fields) (h .shape .variables) (replay (s .cap) (h .log) (h .tables)) (g .good) a f c k l i)))
+      go (Free c) i = refl
+
+  -- live now: the new cell, or one that was live
+  now : (b : ℕ) → live (store (h .shape .fields) (h .first) 0 Nothing) b ≡ true → (b ≡ h .first) ⊎ (live (h .shape .fields) b ≡ true)
+  unfolding place
+  now b l = go (eqb b (h .first)) refl (sym (live-store-0 (h .shape .fields) (h .first) b Nothing (let k = Tk .there in omega arith)) ∙ l)
+    where
+      go : (q : Bool) → eqb b (h .first) ≡ q → cond q true (live (h .shape .fields) b) ≡ true → (b ≡ h .first) ⊎ (live (h .shape .fields) b ≡ true)
+      go true i m = inl (eqb-true b (h .first) i)
+      go false i m = inr m
+
+  sim-take : (v : ℕ) → Sim extend (takeCell v h .shape) (endlessRun (New v) e)
+  unfolding takeCell hold endlessRun place
+  sim-take v =
+      record {
+        vars = ap₂ (λ l o. set l v o) (R .vars ∙ map-agree ρ extend (h .shape .variables) (λ a k. extend-live a (g .good .held a k))) (ap some (sym extend-first)) ∙ sym (map-set (ren extend) (h .shape .variables) v (some (h .first)));
+        cells = λ a f l k. fields a f (now a l) k;
+        inj = λ a b l m. one (now a l) (now b m);
+        below = λ a l. low a (now a l);
+        len = rw (length-append, R .len) (omega arith);
+      }
+    where
+      fs : List Field
+      fs = h .shape .fields
+
+      there-0 : place (h .first) 0 < length fs
+      there-0 = let k = Tk .there in omega arith
+
+      at-first : (f : ℕ) → f < 2 → field (store fs (h .first) 0 Nothing) (h .first) f ≡ Nothing
+      at-first zero k = field-same fs (h .first) 0 Nothing there-0
+      at-first (suc zero) k = field-across fs (h .first) 0 1 Nothing (omega arith) k (omega arith) ∙ Tk .blank-1
+      at-first (suc (suc f)) k = absurd (omega arith)
+
+      fields : (a f : ℕ) → (a ≡ h .first) ⊎ (live fs a ≡ true) → f < 2 → field (e .shape .fields ++ (Nothing ∷ Nothing ∷ [])) (extend a) f ≡ renF extend (field (store fs (h .first) 0 Nothing) a f)
+      fields a f (inl i) k = rw (i, extend-first, at-first f k) (new-field (e .shape .fields) (e .next) f (R .len) k)
+      fields a f (inr l) k =
+          ap (λ x. field (e .shape .fields ++ (Nothing ∷ Nothing ∷ [])) x f) (extend-live a l)
+          ∙ field-append (e .shape .fields) (Nothing ∷ Nothing ∷ []) (ρ a) f (let q = R .below a l in let m = R .len in omega arith)
+          ∙ R .cells a f l k
+          ∙ extend-field a f k l
+          ∙ ap (renF extend) (sym (field-other fs (h .first) a 0 f Nothing (not-first a l) (omega arith) k))
+
+      one : {a b : ℕ} → (a ≡ h .first) ⊎ (live fs a ≡ true) → (b ≡ h .first) ⊎ (live fs b ≡ true) → extend a ≡ extend b → a ≡ b
+      one {a} {b} (inl i) (inl j) m = i ∙ sym j
+      one {a} {b} (inl i) (inr l) m = absurd (let x : extend a ≡ e .next = ap extend i ∙ extend-first in let y = extend-live b l in let z = R .below b l in omega arith)
+      one {a} {b} (inr l) (inl i) m = absurd (let x : extend b ≡ e .next = ap extend i ∙ extend-first in let y = extend-live a l in let z = R .below a l in omega arith)
+      one {a} {b} (inr l) (inr l′) m = R .inj a b l l′ (sym (extend-live a l) ∙ m ∙ extend-live b l′)
+
+      low : (a : ℕ) → (a ≡ h .first) ⊎ (live fs a ≡ true) → extend a < suc (e .next)
+      low a (inl i) = let x : extend a ≡ e .next = ap extend i ∙ extend-first in omega arith
+      low a (inr l) = let y = extend-live a l in let z = R .below a l in omega arith
+
+-- ---- a call
+
+-- what becomes of a call: the same answer, but for a settle's value, and heaps that still agree
+pub record Agree (c : Call) (o : Stepped) (p : EndlessStep) : Type 0 where
+  pub status-same : o .answer .status ≡ p .answer .status
+  pub value-same′ : NotSettle c → o .answer .value ≡ p .answer .value
+  pub renamed : (ρ : ℕ → ℕ) × Sim ρ (o .heap .shape) (p .heap)
+
+-- a call that passed 11 to 13
+abbrev went : Call → Endless → EndlessStep
+went c e = record { heap = endlessRun c e; answer = answer 0 (value c (e .shape)) }
+
+module _ (s : Sizes) (ok : Fine s) where
+  sim-if : (b : Bool) (h : Heap) → Inv s h → (ρ : ℕ → ℕ) (e : Endless) → Sim ρ (h .shape) e → Sim ρ (settledIf b s h .shape) e
+  unfolding settledIf
+  sim-if true h g ρ e R = sim-settled s ok h g ρ e R
+  sim-if false h g ρ e R = R
+
+  did : (c : Call) → NotNew c → (h : Heap) → Inv s h → Fits s c → check c (h .shape) ≡ 0 → (ρ : ℕ → ℕ) (e : Endless) → Sim ρ (h .shape) e
+      → Agree c (doCall c h) (went c e)
+  unfolding doCall
+  did c nn h g f d ρ e R =
+      let t = replay (s .cap) (h .log) (h .tables) in
+      record {
+        status-same = refl;
+        value-same′ = λ k. sym (value-same s ok (h .shape) t (g .good) ρ e R c f);
+        renamed = (ρ, sim-act s ok (h .shape) t (g .good) ρ e R c nn f d);
+      }
+
+  did-room : (c : Call) → NotNew c → (h : Heap) → Inv s h → Fits s c → check c (h .shape) ≡ 0 → ((a b : Shape) → a .variables ≡ b .variables → check c a ≡ check c b) → (ρ : ℕ → ℕ) (e : Endless) → Sim ρ (h .shape) e
+      → Agree c (doCall c (room s c h)) (went c e)
+  unfolding room
+  did-room c nn h g f d p ρ e R =
+      let b = full s (length (logs c (h .shape))) h in
+      let r = settledIf-inv s ok b h g in
+      did c nn (settledIf b s h) (r .0) f (p (settledIf b s h .shape) (h .shape) (r .1) ∙ d) ρ e (sim-if b h g ρ e R)
+
+  ran : (c : Call) (h : Heap) → Inv s h → Fits s c → check c (h .shape) ≡ 0 → (ρ : ℕ → ℕ) (e : Endless) → Sim ρ (h .shape) e → ¬ (run s c h .answer .status ≡ 14) → Agree c (run s c h) (went c e)
+  unfolding run doNew doSettle check var value endlessRun
+  ran (New v) h g f d ρ e R n14 = go (full s 1 h || noneFree s h) n14
+    where
+      go : (b : Bool) → (¬ (doNew s v (settledIf b s h) .answer .status ≡ 14)) → Agree (New v) (doNew s v (settledIf b s h)) (went (New v) e)
+      go b n14 = at (noneFree s (settledIf b s h)) refl n14
+        where
+          k : Heap
+          k = settledIf b s h
+
+          at : (q : Bool) → noneFree s k ≡ q → (¬ ((cond q (refused k 14) (done (takeCell v k) (pos 0))) .answer .status ≡ 14))
+              → Agree (New v) (cond q (refused k 14) (done (takeCell v k) (pos 0))) (went (New v) e)
+          at true i n = absurd (n refl)
+          at false i n =
+              let R′ = sim-if b h g ρ e R in
+              let g′ = settledIf-inv s ok b h g .0 in
+              record { status-same = refl; value-same′ = λ k. refl; renamed = (extend s ok k g′ i ρ e R′, sim-take s ok k g′ i ρ e R′ v) }
+  ran (Copy v w) h g f d ρ e R n = did (Copy v w) tt h g f d ρ e R
+  ran (Clear v) h g f d ρ e R n = did (Clear v) tt h g f d ρ e R
+  ran (Link v f w) h g k d ρ e R n = did-room (Link v f w) tt h g k d (λ a b p. rw p) ρ e R
+  ran (Put v f x) h g k d ρ e R n = did-room (Put v f x) tt h g k d (λ a b p. rw p) ρ e R
+  ran (Blank v f) h g k d ρ e R n = did-room (Blank v f) tt h g k d (λ a b p. rw p) ρ e R
+  ran (Follow v f w) h g k d ρ e R n = did (Follow v f w) tt h g k d ρ e R
+  ran (Read v f) h g k d ρ e R n = did (Read v f) tt h g k d ρ e R
+  ran (Same v w) h g f d ρ e R n = did (Same v w) tt h g f d ρ e R
+  ran Settle h g f d ρ e R n = record { status-same = refl; value-same′ = λ k. absurd k; renamed = (ρ, sim-settled s ok h g ρ e R) }
+
+  pub step-agrees : (c : Call) (h : Heap) → Inv s h → Fits s c → (ρ : ℕ → ℕ) (e : Endless) → Sim ρ (h .shape) e → ¬ (step s c h .answer .status ≡ 14) → Agree c (step s c h) (endlessStep c e)
+  unfolding step endlessStep
+  step-agrees c h g f ρ e R n = rw (check-same s ok (h .shape) (replay (s .cap) (h .log) (h .tables)) (g .good) ρ e R c f, endlessStep) (go (check c (h .shape)) refl n)
+    where
+      mine : ℕ → Stepped
+      mine k = elim k [ zero ↦ run s c h | suc j ↦ refused h (suc j) ]
+
+      its : ℕ → EndlessStep
+      its k = elim k [ zero ↦ went c e | suc j ↦ record { heap = e; answer = answer (suc j) (pos 0) } ]
+
+      go : (k : ℕ) → check c (h .shape) ≡ k → (¬ (mine k .answer .status ≡ 14)) → Agree c (mine k) (its k)
+      go zero d n = ran c h g f d ρ e R n
+      go (suc j) d n = record { status-same = refl; value-same′ = λ k. refl; renamed = (ρ, R) }
+
+  -- a new answered 14 leaves the endless heap as it was: its settle only frees cells
+  ran-14 : (c : Call) (h : Heap) → Inv s h → (ρ : ℕ → ℕ) (e : Endless) → Sim ρ (h .shape) e → run s c h .answer .status ≡ 14 → Sim ρ (run s c h .heap .shape) e
+  unfolding run doNew doSettle doCall
+  ran-14 (New v) h g ρ e R i = at (noneFree s k) i
+    where
+      k : Heap
+      k = settledIf (full s 1 h || noneFree s h) s h
+
+      at : (q : Bool) → (cond q (refused k 14) (done (takeCell v k) (pos 0))) .answer .status ≡ 14 → Sim ρ ((cond q (refused k 14) (done (takeCell v k) (pos 0))) .heap .shape) e
+      at true i = sim-if (full s 1 h || noneFree s h) h g ρ e R
+      at false i = absurd (omega arith)
+  ran-14 (Copy v w) h g ρ e R i = absurd (omega arith)
+  ran-14 (Clear v) h g ρ e R i = absurd (omega arith)
+  ran-14 (Link v f w) h g ρ e R i = absurd (omega arith)
+  ran-14 (Put v f x) h g ρ e R i = absurd (omega arith)
+  ran-14 (Blank v f) h g ρ e R i = absurd (omega arith)
+  ran-14 (Follow v f w) h g ρ e R i = absurd (omega arith)
+  ran-14 (Read v f) h g ρ e R i = absurd (omega arith)
+  ran-14 (Same v w) h g ρ e R i = absurd (omega arith)
+  ran-14 Settle h g ρ e R i = absurd (omega arith)
+
+  pub step-14 : (c : Call) (h : Heap) → Inv s h → (ρ : ℕ → ℕ) (e : Endless) → Sim ρ (h .shape) e → step s c h .answer .status ≡ 14 → Sim ρ (step s c h .heap .shape) e
+  unfolding step
+  step-14 c h g ρ e R i = go (check c (h .shape)) i
+    where
+      mine : ℕ → Stepped
+      mine k = elim k [ zero ↦ run s c h | suc j ↦ refused h (suc j) ]
+
+      go : (k : ℕ) → mine k .answer .status ≡ 14 → Sim ρ (mine k .heap .shape) e
+      go zero i = ran-14 c h g ρ e R i
+      go (suc j) i = R
+
+-- a fresh heap against an endless heap with nothing in it
+pub fresh-sim : (s : Sizes) → Sim (λ a. a) (fresh s .shape) (endless (s .m))
+unfolding fresh endless
+fresh-sim s =
+    record {
+      vars = sym (ids (s .m));
+      cells = λ a f l k. absurd (true≢false (sym l ∙ dead s a));
+      inj = λ a b l m e. e;
+      below = λ a l. absurd (true≢false (sym l ∙ dead s a));
+      len = refl;
+    }
+  where
+    ids : (m : ℕ) → map (ren (λ a. a)) (replicate m none) ≡ replicate m none
+    ids zero = refl
+    ids (suc m) = ap (λ l. none ∷ l) (ids m)
