@@ -4,21 +4,11 @@ ghost use Prim.Native.Nat.{ℕ, _+_, _*_, _<_, _≤_};
 ghost use lib.ListN.{length, getD, replicate};
 ghost use lib.IntN.{pos};
 ghost use Rattle.rules.specs.Head.{Says};
-ghost use Rattle.rules.specs.Field.{addressOf};
 ghost use Rattle.rules.specs.Sound.{mark, Live, Mark, WordAt, Words, Variable, Variables, TableRow, ZeroFrom, At, Ranged, pointsTo};
 ghost use Rattle.checks.specs.CellRows.{CellRows};
 ghost use Rattle.checks.specs.Walk.{Walked, AllMet};
 ghost use Rattle.checks.specs.Counts.{Counted, Holders, Agree, AllHeld, Within};
-
-// The address that a signed word is: `none` for a negative one.
-pub fn address(x: i32, none: usize) -> usize
-    ensures { λ r. ⌜ r ≡ addressOf none x ⌝ }
-{
-    if x < 0 {
-        return none;
-    }
-    x as usize
-}
+use cells::address_or;
 
 // Does b name a cell that isn't free?
 pub fn live(kinds: &[u8], n: usize, b: usize) -> bool
@@ -42,7 +32,7 @@ pub fn mark(kinds: &[u8], n: usize, a: usize, f: usize, x: i32) -> bool
     if f != 0 {
         return false;
     }
-    if n < address(x, n + 1) {
+    if n < address_or(x, n + 1) {
         return false;
     }
     if kinds[2 * a + 1] != 0 {
@@ -62,7 +52,7 @@ pub fn word(kinds: &[u8], values: &[i32], n: usize, a: usize, f: usize) -> bool
     let x = values[i];
     match k {
         0 => {
-            let t = address(x, 1);
+            let t = address_or(x, 1);
             if t != 0 {
                 return false;
             }
@@ -70,7 +60,7 @@ pub fn word(kinds: &[u8], values: &[i32], n: usize, a: usize, f: usize) -> bool
         }
         1 => true,
         2 => {
-            let t = address(x, n);
+            let t = address_or(x, n);
             live(kinds, n, t)
         }
         3 => mark(kinds, n, a, f, x),
@@ -99,17 +89,6 @@ pub fn words(kinds: &[u8], values: &[i32], n: usize) -> bool
     sound
 }
 
-// Makes a row zero.
-pub fn clear(row: &mut [u32])
-    ensures { λ _. ⌜ now (row .exit) ≡ replicate (length (now (row .entry))) 0 ⌝ }
-{
-    let mut i = 0;
-    while i < row.len() {
-        row[i] = 0;
-        i += 1;
-    }
-}
-
 // Walks the free list from its first address and marks each cell that it meets: is it a list of free cells that ends with n?
 pub fn walk(kinds: &[u8], values: &[i32], n: usize, first: usize, work: &mut [u32]) -> bool
     requires { ⌜ CellRows n (now kinds) (now values) ⌝ }
@@ -126,7 +105,7 @@ pub fn walk(kinds: &[u8], values: &[i32], n: usize, first: usize, work: &mut [u3
         }
         work[at] = 1;
         let x = values[2 * at];
-        at = address(x, n + 1);
+        at = address_or(x, n + 1);
     }
     if at != n {
         return false;
@@ -160,7 +139,7 @@ pub fn points_to(kinds: &[u8], values: &[i32], n: usize, i: usize) -> usize
         return n;
     }
     let x = values[i];
-    address(x, n)
+    address_or(x, n)
 }
 
 // Counts the pointers to each cell into the work row.
@@ -280,7 +259,7 @@ pub fn mark_held(variables: &[i32], n: usize, work: &mut [u32])
     let mut v = 0;
     while v < variables.len() {
         let x = variables[v];
-        let t = address(x, n);
+        let t = address_or(x, n);
         if t < n {
             work[t] = 1;
         }
@@ -381,7 +360,7 @@ pub fn variable(kinds: &[u8], n: usize, x: i32) -> bool
     if x == -1 {
         return true;
     }
-    let t = address(x, n);
+    let t = address_or(x, n);
     live(kinds, n, t)
 }
 

@@ -1,5 +1,5 @@
 use Rattle.checks.specs.Counts.{Holders}
-use Rattle.checks.proofs.Signed.{back}
+use Rattle.cells.proofs.Signed.{back}
 use Rattle.checks.proofs.Tally.{holders-none, holders-more, holders-same}
 use native.Mathlib.Omega.{arith}
 use borrow.Author.Needs.{needs}
@@ -25,8 +25,8 @@ mul-x c = omega arith
 shared-slice-copy-out-x : tie.Need-shared-slice-copy-out-x Inv-loop μ-loop
 shared-slice-copy-out-x c = omega arith
 
-address-requires : tie.Need-address-requires Inv-loop μ-loop
-address-requires c κs = search needs
+address-or-requires : tie.Need-address-or-requires Inv-loop μ-loop
+address-or-requires c κs = search needs
 
 mul-work : tie.Need-mul-work Inv-loop μ-loop
 mul-work c = omega arith
@@ -45,7 +45,7 @@ loop-again c =
     let l = c .before .before .before .before .loop in
     let h = l .inv .1 .1 in
     let b = back _ (c .before .before .x .given) in
-    let s = c .before .address .ensures in (
+    let s = c .before .address-or .ensures in (
       l .inv .0,
       (
         omega arith,
@@ -72,7 +72,7 @@ mark-held-spec =
     loop-holds
     mul-x
     shared-slice-copy-out-x
-    address-requires
+    address-or-requires
     mul-work
     slice-write-work
     add-v

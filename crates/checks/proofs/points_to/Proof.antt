@@ -1,4 +1,4 @@
-use Rattle.checks.proofs.Signed.{back}
+use Rattle.cells.proofs.Signed.{back}
 use Rattle.checks.proofs.Tally.{points-else, points-cell}
 use lib.ListN.{getD}
 use lib.IntN.{pos}
@@ -18,11 +18,11 @@ mul-x c = search needs
 shared-slice-copy-out-x : tie.Need-shared-slice-copy-out-x
 shared-slice-copy-out-x c = search needs
 
-address-requires : tie.Need-address-requires
-address-requires c κs = search needs
+address-or-requires : tie.Need-address-or-requires
+address-or-requires c κs = search needs
 
 returns-2 : tie.Need-returns-2
-returns-2 c = points-cell (c .before .before .before .before .before .args .n) _ (getD (c .before .before .before .before .before .args .values .now) (c .before .before .before .before .before .args .i) (pos 0)) (c .before .before .if1 .left) _ (back _ (c .before .x .given)) _ (c .address .ensures)
+returns-2 c = points-cell (c .before .before .before .before .before .args .n) _ (getD (c .before .before .before .before .before .args .values .now) (c .before .before .before .before .before .args .i) (pos 0)) (c .before .before .if1 .left) _ (back _ (c .before .x .given)) _ (c .address-or .ensures)
 
 pub points-to-spec : {M : Type 1} → statement M
 points-to-spec =
@@ -32,5 +32,5 @@ points-to-spec =
     returns
     mul-x
     shared-slice-copy-out-x
-    address-requires
+    address-or-requires
     returns-2)

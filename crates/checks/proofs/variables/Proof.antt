@@ -1,6 +1,6 @@
 use Rattle.rules.proofs.Answers.{is, isn't}
 use Rattle.rules.specs.Sound.{Variable}
-use Rattle.checks.proofs.Signed.{back}
+use Rattle.cells.proofs.Signed.{back}
 use native.Mathlib.Omega.{arith}
 use borrow.Author.Needs.{needs}
 use borrow.Author.Tests.{not-true, not-false}

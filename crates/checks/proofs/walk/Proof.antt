@@ -3,7 +3,7 @@ use borrow.Author.Needs.{needs}
 use mathlib.Core.Path.{_≡_}
 use lib.ListN.{length, length-replicate}
 use Rattle.checks.specs.Walk.{Met, zeros}
-use Rattle.checks.proofs.Signed.{back}
+use Rattle.cells.proofs.Signed.{back}
 use Rattle.checks.proofs.Walks.{start, turned, zeros-less, not-free, not-there, not-twice, walked, refused}
 use Rattle.checks.proofs.walk.Statement.{statement}
 use Rattle.checks.proofs.walk.Tie as tie
@@ -61,11 +61,11 @@ mul-x-2 c = omega arith
 shared-slice-copy-out-x : tie.Need-shared-slice-copy-out-x Inv-loop μ-loop
 shared-slice-copy-out-x c = omega arith
 
-add-address : tie.Need-add-address Inv-loop μ-loop
-add-address c = omega arith
+add-address-or : tie.Need-add-address-or Inv-loop μ-loop
+add-address-or c = omega arith
 
-address-requires : tie.Need-address-requires Inv-loop μ-loop
-address-requires c κs = search needs
+address-or-requires : tie.Need-address-or-requires Inv-loop μ-loop
+address-or-requires c κs = search needs
 
 loop-less : tie.Need-loop-less Inv-loop μ-loop
 loop-less c =
@@ -77,7 +77,7 @@ loop-again : tie.Need-loop-again Inv-loop μ-loop
 loop-again c =
     let l = c .before .before .before .before .before .before .before .loop in
     let t = c .before .before .before .before .before .before .loop-test .taken in
-    (l .inv .0, turned _ _ _ _ _ _ (l .inv .1) t (c .before .before .before .before .if1 .left) (c .before .before .if2 .left) _ (back _ (c .before .x .given)) _ (c .address .ensures))
+    (l .inv .0, turned _ _ _ _ _ _ (l .inv .1) t (c .before .before .before .before .if1 .left) (c .before .before .if2 .left) _ (back _ (c .before .x .given)) _ (c .address-or .ensures))
 
 same-length-3 : tie.Need-same-length-3 Inv-loop μ-loop
 same-length-3 c = omega arith
@@ -111,8 +111,8 @@ walk-spec =
     mul-x
     mul-x-2
     shared-slice-copy-out-x
-    add-address
-    address-requires
+    add-address-or
+    address-or-requires
     loop-less
     loop-again
     same-length-3
