@@ -2,18 +2,21 @@
 use Prim.Native.Nat.{ℕ, _*_}
 use mathlib.Core.Path.{_≡_, refl, sym, _∙_}
 use mathlib.Core.Bool.{Bool, true, false, cond}
-use mathlib.Core.List.{List}
+use mathlib.Core.List.{List, [], _∷_, map}
 use native.Mathlib.Omega.{arith}
-use lib.IntN.{ℤ}
-use lib.ListN.{length, getD, replicate}
+use lib.IntN.{ℤ, pos, negsuc}
+use lib.ListN.{length, getD, replicate, length-map}
 use Rattle.rules.specs.declared.Head.{Head}
+use Rattle.rules.specs.Field.{variableOf, heldOf}
 use Rattle.rules.specs.Rows.{lent}
-use Rattle.rules.specs.Sound.{TableRow, heldAmong, Sound, Sized}
+use Rattle.rules.specs.Sound.{Variable, Variables, TableRow, heldAmong, Sound, Sized}
 use Rattle.rules.specs.Refusals.{outcome, leaves, auditOf}
 use Rattle.rules.proofs.Tests.{false-sized}
+use Rattle.rules.proofs.Positions.{holds-held}
 use Rattle.rules.proofs.Demand1.{audit-0, audit-4}
-use Rattle.checks.specs.Counts.{Counted, Holders, Agree, AllHeld, Within}
-use Rattle.audit.specs.Parts.{PointersSound, HeldSound, RowsSound, WorkSound}
+use Rattle.cells.specs.Marks.{Marks}
+use Rattle.checks.specs.Counts.{Counted, Agree, AllHeld, Within}
+use Rattle.audit.specs.Parts.{PointersSound, HeldSound, RowsSound, WorkSound, Named}
 
 module _ (n : ℕ) (ks : List ℕ) (vs : List ℤ) (zs : List ℕ) (zct : ℕ) (ms cs : List ℕ) (mrt cap : ℕ) (work : List ℕ)
     (Z : TableRow n ks zs zct) (M : TableRow n ks ms mrt) (c : Counted n ks vs (2 * n) work) where
@@ -35,16 +38,32 @@ module _ (n : ℕ) (ks : List ℕ) (vs : List ℤ) (zs : List ℕ) (zct : ℕ) (
         exact = λ j h k. c .each (getD ms j 0) (M .live j h .cell) ∙ A .exact j h k;
       }
 
-module _ (n : ℕ) (xs : List ℤ) (zs : List ℕ) (zct : ℕ) (work : List ℕ) (W : Within zs zct n) (H : Holders n xs (length xs) work) where
+-- a variable's word is what it holds, and back
+named : (n : ℕ) (ks : List ℕ) (x : ℤ) → Variable n ks x → variableOf (heldOf x) ≡ x
+named n ks (pos a) A = refl
+named n ks (negsuc zero) A = refl
+named n ks (negsuc (suc a)) A =
+    absurd (let h = A (λ e. let z : _≡_ {A = ℕ} (suc a) 0 = cc in omega arith) .cell in omega arith)
+
+pub all-named : (n : ℕ) (ks : List ℕ) (xs : List ℤ) → Variables n ks xs → Named xs
+all-named n ks [] A = refl
+all-named n ks (x ∷ xs) A = rw (named n ks x (A 0 (omega arith)), all-named n ks xs (λ v h. A (suc v) (omega arith)))
+
+module _ (n : ℕ) (xs : List ℤ) (zs : List ℕ) (zct : ℕ) (work : List ℕ) (W : Within zs zct n) (N : Named xs) (M : Marks n work (map heldOf xs)) where
+  marked-at : (b : ℕ) → b < n → getD work b 0 ≡ cond (heldAmong n xs b (length xs)) 1 0
+  marked-at b h =
+      let e = rw (N, length-map xs heldOf) at (holds-held n (map heldOf xs) b h) in
+      rw (← e) (M .marks b h)
+
   pub marked-held : AllHeld zs zct work → HeldSound n xs zs zct
-  marked-held A j h = go (heldAmong n xs (getD zs j 0) (length xs)) (H .each (getD zs j 0) (W j h))
+  marked-held A j h = go (heldAmong n xs (getD zs j 0) (length xs)) (marked-at (getD zs j 0) (W j h))
     where
       go : (q : Bool) → getD work (getD zs j 0) 0 ≡ cond q 1 0 → q ≡ true
       go true e = refl
       go false e = absurd (A j h e)
 
   pub held-marked : HeldSound n xs zs zct → AllHeld zs zct work
-  held-marked S j h z = let e = H .each (getD zs j 0) (W j h) in let o = rw (S j h) at e in omega arith
+  held-marked S j h z = let e = marked-at (getD zs j 0) (W j h) in let o = rw (S j h) at e in omega arith
 
 module _ (h : Head) (ks : List ℕ) (vs xs : List ℤ) (zs ms cs ls work : List ℕ) where
   pub all-sound : RowsSound h ks vs xs zs ms cs ls → WorkSound h ks vs xs zs ms cs → Sound h (lent ks vs xs zs ms cs ls work)

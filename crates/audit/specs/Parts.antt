@@ -1,12 +1,14 @@
 -- The parts of a sound heap, as they are found out one after another. Assumes nothing.
-use Prim.Native.Nat.{ℕ, _*_, _<_}
+use Prim.Native.Nat.{ℕ, _*_, _<_, _≤_}
 use mathlib.Core.Path.{_≡_}
 use mathlib.Core.Bool.{true}
-use mathlib.Core.List.{List}
+use mathlib.Core.List.{List, map}
 use lib.ListN.{length, getD}
 use lib.IntN.{ℤ}
 use Rattle.rules.specs.declared.Head.{Head}
+use Rattle.rules.specs.Field.{variableOf, heldOf}
 use Rattle.rules.specs.Sound.{Live, Words, Variables, TableRow, ZeroFrom, NotIn, Ranged, pointers, heldAmong, FreeList}
+use Rattle.checks.specs.CellRows.{CellRows}
 
 pub record CellsSound (n : ℕ) (ks : List ℕ) (vs xs : List ℤ) : Type 0 where
   pub words : Words n ks vs
@@ -36,6 +38,10 @@ pub record PointersSound (n : ℕ) (ks : List ℕ) (vs : List ℤ) (zs : List �
 abbrev pub HeldSound : ℕ → List ℤ → List ℕ → ℕ → Type 0
 HeldSound n xs zs zct = (j : ℕ) → j < zct → heldAmong n xs (getD zs j 0) (length xs) ≡ true
 
+-- the variables' words are -1 or addresses
+abbrev pub Named : List ℤ → Type 0
+Named xs = map variableOf (map heldOf xs) ≡ xs
+
 -- what is found out without the work row, and what with it
 pub record RowsSound (h : Head) (ks : List ℕ) (vs xs : List ℤ) (zs ms cs ls : List ℕ) : Type 0 where
   pub cells : CellsSound (h .n) ks vs xs
@@ -46,3 +52,14 @@ pub record WorkSound (h : Head) (ks : List ℕ) (vs xs : List ℤ) (zs ms cs : L
   pub free-list : FreeList (h .n) ks vs (h .free)
   pub agree : PointersSound (h .n) ks vs zs (h .zct) ms cs (h .mrt) (h .cap)
   pub held : HeldSound (h .n) xs zs (h .zct)
+
+-- what the work row's checks lean on: lengths, and what was found out before
+pub record WorkReady (h : Head) (ks : List ℕ) (vs xs : List ℤ) (zs ms cs work : List ℕ) : Type 0 where
+  pub cells : CellRows (h .n) ks vs
+  pub zct-fits : h .zct ≤ length zs
+  pub mrt-fits : h .mrt ≤ length ms
+  pub counts-fits : h .mrt ≤ length cs
+  pub work-long : length work ≡ h .n
+  pub zct-row : TableRow (h .n) ks zs (h .zct)
+  pub mrt-row : TableRow (h .n) ks ms (h .mrt)
+  pub named : Named xs

@@ -8,13 +8,13 @@ ghost use Rattle.rules.specs.Sound.{TableRow, FreeList, Lengths, Sized, Sound};
 ghost use Rattle.rules.specs.Refusals.{leaves, auditOf};
 ghost use Rattle.checks.specs.CellRows.{CellRows};
 ghost use Rattle.checks.specs.Counts.{Within};
-ghost use Rattle.audit.specs.Parts.{CellsSound, TableSound, CountsSound, TablesSound, PointersSound, HeldSound, RowsSound, WorkSound};
+ghost use Rattle.audit.specs.Parts.{CellsSound, TableSound, CountsSound, TablesSound, PointersSound, HeldSound, RowsSound, WorkSound, WorkReady, Named};
 use cells::clear;
+use cells::mark_held;
 use checks::all_held;
 use checks::all_met;
 use checks::compare;
 use checks::count;
-use checks::mark_held;
 use checks::ranged;
 use checks::table;
 use checks::walk;
@@ -120,10 +120,10 @@ pub fn pointers_sound(
 pub fn held_sound(variables: &[i32], n: usize, zct: &[u32], zused: usize, work: &mut [u32]) -> bool
     requires { ⌜ (zused ≤ length (now zct)) × (length (now work) ≡ n) ⌝ }
     requires { ⌜ Within (now zct) zused n ⌝ }
+    requires { ⌜ Named (now variables) ⌝ }
     ensures { λ r. ⌜ Says r (HeldSound n (now (variables .entry)) (now (zct .entry)) zused) ⌝ }
 {
-    clear(work);
-    mark_held(variables, n, work);
+    mark_held(variables, work);
     all_held(zct, zused, work)
 }
 
@@ -182,10 +182,7 @@ pub fn work_sound(
     counts: &[u32],
     work: &mut [u32],
 ) -> bool
-    requires { ⌜ CellRows (head .n) (now kinds) (now values) ⌝ }
-    requires { ⌜ (head .zct ≤ length (now zct)) × ((head .mrt ≤ length (now mrt)) × ((head .mrt ≤ length (now counts)) × (length (now work) ≡ head .n))) ⌝ }
-    requires { ⌜ TableRow (head .n) (now kinds) (now zct) (head .zct) ⌝ }
-    requires { ⌜ TableRow (head .n) (now kinds) (now mrt) (head .mrt) ⌝ }
+    requires { ⌜ WorkReady head (now kinds) (now values) (now variables) (now zct) (now mrt) (now counts) (now work) ⌝ }
     ensures { λ r. ⌜ Says r (WorkSound head (now (kinds .entry)) (now (values .entry)) (now (variables .entry)) (now (zct .entry)) (now (mrt .entry)) (now (counts .entry))) ⌝ }
 {
     let n = head.n;
