@@ -3,3 +3,5 @@ pub mod Signed
 pub mod Filling
 pub mod Storing
 pub mod Logging
+pub mod Marking
+pub mod Freshness

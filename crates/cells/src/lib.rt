@@ -11,7 +11,7 @@ ghost use Rattle.rules.specs.Field.{addressOf, fieldOf, kindOf, valueOf, variab
 ghost use Rattle.rules.specs.Head.{Sizes};
 ghost use Rattle.rules.specs.Rules.{Transaction};
 ghost use Rattle.rules.specs.Settle.{place, field, store, drops};
-ghost use Rattle.rules.specs.Step.{after, fresh};
+ghost use Rattle.rules.specs.Step.{after, freeFrom, fresh};
 ghost use Rattle.rules.specs.Rows.{lent, rowsOf, Inside, Cells, Logged};
 ghost use Rattle.cells.specs.Leaves.{heldAs};
 ghost use Rattle.cells.specs.Log.{transaction, Noted};
@@ -205,4 +205,74 @@ pub fn take_free(kinds: &mut [u8], values: &mut [i32], a: usize) -> usize
     let old = field_at(kinds, values, i);
     put_field(kinds, values, i, Field::Nothing);
     after_field(old)
+}
+
+// The mark of a, where the row has a place for it.
+pub fn mark(row: &mut [u32], a: usize)
+    ensures { λ _. ⌜ now (row .exit) ≡ set (now (row .entry)) a 1 ⌝ }
+{
+    if a < row.len() {
+        row[a] = 1;
+    }
+}
+
+// The work row: 1 at each address that a variable holds, else 0.
+pub fn mark_held(variables: &[i32], work: &mut [u32])
+    ensures { λ _. ⌜ ((hs : List (Option ℕ)) → now (variables .entry) ≡ map variableOf hs → Marks (length (now (work .entry))) (now (work .exit)) hs) ⌝ }
+{
+    clear(work);
+    let n = work.len();
+    let mut v = 0;
+    while v < variables.len() {
+        let a = held(variables, v, n);
+        mark(work, a);
+        v += 1;
+    }
+}
+
+// All cells free in the order 0, 1, .. n-1.
+pub fn fresh_cells(kinds: &mut [u8], values: &mut [i32], n: usize)
+    requires { ⌜ (length (now kinds) ≡ 2 * n) × ((length (now values) ≡ 2 * n) × (n ≤ 1024)) ⌝ }
+    ensures { λ _. ⌜ (now (kinds .exit) ≡ map kindOf (freeFrom 0 n)) × (now (values .exit) ≡ map valueOf (freeFrom 0 n)) ⌝ }
+{
+    let mut a = 0;
+    while a < n {
+        free_cell(kinds, values, a, a + 1);
+        a += 1;
+    }
+}
+
+// No variable holds anything.
+pub fn fill_nothing(variables: &mut [i32])
+    ensures { λ _. ⌜ now (variables .exit) ≡ replicate (length (now (variables .entry))) (negsuc 0) ⌝ }
+{
+    let mut v = 0;
+    while v < variables.len() {
+        variables[v] = -1;
+        v += 1;
+    }
+}
+
+// A fresh heap of n cells, written into the rows.
+pub fn fresh_rows(
+    kinds: &mut [u8],
+    values: &mut [i32],
+    variables: &mut [i32],
+    zct: &mut [u32],
+    mrt: &mut [u32],
+    counts: &mut [u32],
+    log: &mut [u32],
+    work: &mut [u32],
+    n: usize,
+)
+    requires { ⌜ Fitting n (now kinds) (now values) (now zct) (now mrt) (now counts) (now work) ⌝ }
+    ensures { λ _. ⌜ ((s : Sizes) → s .n ≡ n → s .m ≡ length (now (variables .entry)) → 2 * s .l ≡ length (now (log .entry)) → lent (now (kinds .exit)) (now (values .exit)) (now (variables .exit)) (now (zct .exit)) (now (mrt .exit)) (now (counts .exit)) (now (log .exit)) (now (work .exit)) ≡ rowsOf s (fresh s)) ⌝ }
+{
+    fresh_cells(kinds, values, n);
+    fill_nothing(variables);
+    clear(zct);
+    clear(mrt);
+    clear(counts);
+    clear(log);
+    clear(work);
 }
