@@ -1,5 +1,5 @@
 -- What the work row showed, said of the rows themselves; and the outcome of an audit. Assumes nothing.
-use Prim.Native.Nat.{ℕ, _*_}
+use Prim.Native.Nat.{ℕ, zero, suc, _*_, _<_}
 use mathlib.Core.Path.{_≡_, refl, sym, _∙_}
 use mathlib.Core.Bool.{Bool, true, false, cond}
 use mathlib.Core.List.{List, [], _∷_, map}
@@ -16,7 +16,7 @@ use Rattle.rules.proofs.Positions.{holds-held}
 use Rattle.rules.proofs.Demand1.{audit-0, audit-4}
 use Rattle.cells.specs.Marks.{Marks}
 use Rattle.checks.specs.Counts.{Counted, Agree, AllHeld, Within}
-use Rattle.audit.specs.Parts.{PointersSound, HeldSound, RowsSound, WorkSound, Named}
+use Rattle.audit.specs.Parts.{PointersSound, HeldSound, RowsSound, WorkSound, WorkReady, Named}
 
 module _ (n : ℕ) (ks : List ℕ) (vs : List ℤ) (zs : List ℕ) (zct : ℕ) (ms cs : List ℕ) (mrt cap : ℕ) (work : List ℕ)
     (Z : TableRow n ks zs zct) (M : TableRow n ks ms mrt) (c : Counted n ks vs (2 * n) work) where
@@ -84,6 +84,21 @@ module _ (h : Head) (ks : List ℕ) (vs xs : List ℤ) (zs ms cs ls work : List 
         exact = w .agree .exact;
         ranged = s .tables .counts-sound .ranged;
         log-zero = s .log-zero;
+      }
+
+  pub work-ready : Sized h (lent ks vs xs zs ms cs ls work) → RowsSound h ks vs xs zs ms cs ls → WorkReady h ks vs xs zs ms cs work
+  work-ready z s =
+      let l = z .limits in
+      let g = z .lengths in
+      record {
+        cells = record { some = l .n-least; most = l .n-most; kinds = g .for-kinds; values = g .for-values };
+        zct-fits = omega arith;
+        mrt-fits = omega arith;
+        counts-fits = omega arith;
+        work-long = g .for-work;
+        zct-row = s .tables .zct-sound .table;
+        mrt-row = s .tables .mrt-sound .table;
+        named = all-named (h .n) ks xs (s .cells .variables);
       }
 
   pub sound-rows : Sound h (lent ks vs xs zs ms cs ls work) → RowsSound h ks vs xs zs ms cs ls

@@ -65,7 +65,7 @@ pub fn counts_sound(counts: &[u32], used: usize, cap: usize) -> bool
     true
 }
 
-// Are the tables' lent as they are to be?
+// Are the tables' rows as they are to be?
 pub fn tables_sound(
     kinds: &[u8],
     n: usize,

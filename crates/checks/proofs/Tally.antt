@@ -1,7 +1,7 @@
--- Pointers counted, and heldAmong marked, one word at a time. Assumes nothing.
+-- Pointers counted, one word at a time. Assumes nothing.
 use Prim.Native.Nat.{ℕ, zero, suc, _+_, _<_, _≤_}
 use mathlib.Core.Path.{_≡_, refl, sym}
-use mathlib.Core.Bool.{Bool, true, false, cond, _||_}
+use mathlib.Core.Bool.{Bool, true, false, cond}
 use mathlib.Core.List.{List}
 use native.Mathlib.Omega.{arith}
 use native.Mathlib.Numerals.{add-one}
@@ -11,8 +11,8 @@ use lib.ListN.{getD, set, replicate, length-set, length-replicate}
 use lib.Seq.{getD-set-same, getD-set-other}
 use borrow.Author.Tests.{eqb-true, eqb-false, ne-eqb}
 use Rattle.rules.specs.Field.{addressOf}
-use Rattle.rules.specs.Sound.{pointsTo, pointers, heldAmong}
-use Rattle.checks.specs.Counts.{Counted, Holders}
+use Rattle.rules.specs.Sound.{pointsTo, pointers}
+use Rattle.checks.specs.Counts.{Counted}
 use Rattle.checks.proofs.Walks.{zero-at}
 
 module _ (n : ℕ) (ks : List ℕ) (vs : List ℤ) where
@@ -37,21 +37,6 @@ module _ (n : ℕ) (ks : List ℕ) (vs : List ℤ) where
 
     pub counted-same : n ≤ t → Counted n ks vs (i + 1) work
     counted-same h = record { long = c .long; each = λ b k. rw (add-one i, ← s, ne-eqb t b (omega arith)) (omega (arith, c .each b k)) }
-
-module _ (n : ℕ) (xs : List ℤ) where
-  pub holders-none : (work : List ℕ) → work ≡ replicate n 0 → Holders n xs 0 work
-  holders-none work e = record { long = rw e (length-replicate n 0); each = λ b h. rw e (zero-at n b) }
-
-  module _ (v : ℕ) (work : List ℕ) (c : Holders n xs v work) (y : ℤ) (b : y ≡ getD xs v (pos 0)) (t : ℕ) (s : t ≡ addressOf n y) where
-    pub holders-more : t < n → Holders n xs (v + 1) (set work t 1)
-    holders-more h = record { long = simp length-set (c .long); each = λ d k. rw (add-one v, ← b, ← s) (go d k (eqb t d) refl) }
-      where
-        go : (d : ℕ) → d < n → (q : Bool) → eqb t d ≡ q → getD (set work t 1) d 0 ≡ cond (q || heldAmong n xs d v) 1 0
-        go d k true e = rw (sym (eqb-true t d e), getD-set-same work t 1 0 (omega (arith, c .long))) refl
-        go d k false e = rw (getD-set-other work t d 1 0 (λ o. eqb-false t d e (sym o))) (c .each d k)
-
-    pub holders-same : n ≤ t → Holders n xs (v + 1) work
-    holders-same h = record { long = c .long; each = λ d k. rw (add-one v, ← b, ← s, ne-eqb t d (omega arith)) (c .each d k) }
 
 -- what a word that was read points to
 pub points-else : (n k : ℕ) (v : ℤ) → (k ≡ 2 → ⊥) → n ≡ pointsTo n k v

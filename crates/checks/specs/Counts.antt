@@ -1,21 +1,15 @@
--- Pointers counted and holds marked in the work row, and what the tables are to say of them. Assumes nothing.
+-- Pointers counted in the work row, and what the tables are to say of them; the marks of what is held. Assumes nothing.
 use Prim.Native.Nat.{ℕ, _<_}
 use mathlib.Core.Path.{_≡_}
-use mathlib.Core.Bool.{cond}
 use mathlib.Core.List.{List}
 use lib.ListN.{length, getD}
 use lib.IntN.{ℤ}
-use Rattle.rules.specs.Sound.{Live, NotIn, pointers, heldAmong}
+use Rattle.rules.specs.Sound.{Live, NotIn, pointers}
 
 -- the work row has for each cell the number of the first i words that point to it
 pub record Counted (n : ℕ) (ks : List ℕ) (vs : List ℤ) (i : ℕ) (work : List ℕ) : Type 0 where
   pub long : length work ≡ n
   pub each : (b : ℕ) → b < n → getD work b 0 ≡ pointers n ks vs b i
-
--- the work row has a mark at each cell that one of the first v variables holds
-pub record Holders (n : ℕ) (xs : List ℤ) (v : ℕ) (work : List ℕ) : Type 0 where
-  pub long : length work ≡ n
-  pub each : (b : ℕ) → b < n → getD work b 0 ≡ cond (heldAmong n xs b v) 1 0
 
 -- the tables agree with the number of pointers that the work row has for each cell
 pub record Agree (n : ℕ) (ks zs : List ℕ) (zct : ℕ) (ms cs : List ℕ) (mrt cap : ℕ) (work : List ℕ) : Type 0 where

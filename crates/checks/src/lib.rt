@@ -7,7 +7,7 @@ ghost use Rattle.rules.specs.Head.{Says};
 ghost use Rattle.rules.specs.Sound.{mark, Live, Mark, WordAt, Words, Variable, Variables, TableRow, ZeroFrom, At, Ranged, pointsTo};
 ghost use Rattle.checks.specs.CellRows.{CellRows};
 ghost use Rattle.checks.specs.Walk.{Walked, AllMet};
-ghost use Rattle.checks.specs.Counts.{Counted, Holders, Agree, AllHeld, Within};
+ghost use Rattle.checks.specs.Counts.{Counted, Agree, AllHeld, Within};
 use cells::address_or;
 
 // Does b name a cell that isn't free?
@@ -249,22 +249,6 @@ pub fn compare(
         a += 1;
     }
     true
-}
-
-// Marks in the work row each cell that a variable heldAmong.
-pub fn mark_held(variables: &[i32], n: usize, work: &mut [u32])
-    requires { ⌜ now work ≡ replicate n 0 ⌝ }
-    ensures { λ _. ⌜ Holders n (now (variables .entry)) (length (now (variables .entry))) (now (work .exit)) ⌝ }
-{
-    let mut v = 0;
-    while v < variables.len() {
-        let x = variables[v];
-        let t = address_or(x, n);
-        if t < n {
-            work[t] = 1;
-        }
-        v += 1;
-    }
 }
 
 // Is each of the used entries marked in the work row?

@@ -1,7 +1,6 @@
 use borrow.Author.Tests.{not-true, not-false}
-use native.Mathlib.Omega.{arith}
 use Rattle.rules.proofs.Answers.{isn't, same}
-use Rattle.audit.proofs.Whole.{all-sound, sound-rows, sound-work}
+use Rattle.audit.proofs.Whole.{work-ready, all-sound, sound-rows, sound-work}
 use borrow.Author.Needs.{needs}
 use Rattle.audit.proofs.parts_sound.Statement.{statement}
 use Rattle.audit.proofs.parts_sound.Tie as tie
@@ -14,11 +13,9 @@ returns c = isn't (λ s. c .before .rows-sound .ensures .no (not-true _ (c .if1 
 
 work-sound-requires : tie.Need-work-sound-requires
 work-sound-requires c κs =
-    let p = c .before .before .before .before .before .before .before .before .before .pre in
-    let t = c .before .before .rows-sound .ensures .yes (not-false _ (c .before .if1 .left)) .tables in (
-      record { some = omega arith; most = omega arith; kinds = omega arith; values = omega arith },
-      ((omega arith, (omega arith, (omega arith, omega arith))), (t .zct-sound .table, t .mrt-sound .table)),
-    )
+    let z = c .before .before .before .before .before .before .before .before .before .pre in
+    let s = c .before .before .rows-sound .ensures .yes (not-false _ (c .before .if1 .left)) in
+    work-ready _ _ _ _ _ _ _ _ _ z s
 
 same-length : tie.Need-same-length
 same-length c = search needs

@@ -1,6 +1,6 @@
-use Rattle.rules.proofs.Answers.{is, isn't}
 use native.Mathlib.Omega.{arith}
 use borrow.Author.Tests.{not-true, not-false}
+use Rattle.rules.proofs.Answers.{is, isn't}
 use borrow.Author.Needs.{needs}
 use Rattle.audit.proofs.work_sound.Statement.{statement}
 use Rattle.audit.proofs.work_sound.Tie as tie
@@ -17,7 +17,7 @@ returns c = isn't (λ s. c .before .before .before .frees-sound .ensures .no (no
 pointers-sound-requires : tie.Need-pointers-sound-requires
 pointers-sound-requires c κs =
     let p = c .before .before .before .before .before .before .before .before .before .before .before .pre in
-    (p .0, ((p .1 .0 .0, (p .1 .0 .1 .0, (p .1 .0 .1 .1 .0, omega arith))), (p .1 .1 .0, p .1 .1 .1)))
+    (p .cells, ((p .zct-fits, (p .mrt-fits, (p .counts-fits, omega arith))), (p .zct-row, p .mrt-row)))
 
 same-length-2 : tie.Need-same-length-2
 same-length-2 c = search needs
@@ -28,7 +28,7 @@ returns-2 c = isn't (λ s. c .before .before .before .pointers-sound .ensures .n
 held-sound-requires : tie.Need-held-sound-requires
 held-sound-requires c κs =
     let p = c .before .before .before .before .before .before .before .before .before .before .before .before .before .before .before .before .pre in
-    ((p .1 .0 .0, omega arith), λ j h. p .1 .1 .0 .live j h .cell)
+    ((p .zct-fits, omega arith), (λ j h. p .zct-row .live j h .cell, p .named))
 
 same-length-3 : tie.Need-same-length-3
 same-length-3 c = search needs
@@ -40,7 +40,13 @@ same-length-4 : tie.Need-same-length-4
 same-length-4 c = search needs
 
 returns-4 : tie.Need-returns-4
-returns-4 c = is (record { free-list = c .before .before .before .before .before .before .before .before .before .before .before .before .before .frees-sound .ensures .yes (not-false _ (c .before .before .before .before .before .before .before .before .before .before .if1 .left)); agree = c .before .before .before .before .before .before .before .before .pointers-sound .ensures .yes (not-false _ (c .before .before .before .before .before .if2 .left)); held = c .before .before .before .held-sound .ensures .yes (not-false _ (c .if3 .left)) })
+returns-4 c =
+    is
+    (record {
+      free-list = c .before .before .before .before .before .before .before .before .before .before .before .before .before .frees-sound .ensures .yes (not-false _ (c .before .before .before .before .before .before .before .before .before .before .if1 .left));
+      agree = c .before .before .before .before .before .before .before .before .pointers-sound .ensures .yes (not-false _ (c .before .before .before .before .before .if2 .left));
+      held = c .before .before .before .held-sound .ensures .yes (not-false _ (c .if3 .left));
+    })
 
 pub work-sound-spec : {M : Type 1} → statement M
 work-sound-spec =
