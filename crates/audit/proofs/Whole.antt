@@ -92,13 +92,18 @@ module _ (h : Head) (ks : List ℕ) (vs xs : List ℤ) (zs ms cs ls work : List 
       let g = z .lengths in
       record {
         cells = record { some = l .n-least; most = l .n-most; kinds = g .for-kinds; values = g .for-values };
-        zct-fits = omega arith;
-        mrt-fits = omega arith;
-        counts-fits = omega arith;
-        work-long = g .for-work;
-        zct-row = s .tables .zct-sound .table;
-        mrt-row = s .tables .mrt-sound .table;
+        tables =
+            record {
+              most = l .n-most;
+              kinds-long = g .for-kinds;
+              zct-fits = omega arith;
+              mrt-fits = omega arith;
+              counts-fits = omega arith;
+              zct-row = s .tables .zct-sound .table;
+              mrt-row = s .tables .mrt-sound .table;
+            };
         named = all-named (h .n) ks xs (s .cells .variables);
+        work-long = g .for-work;
       }
 
   pub sound-rows : Sound h (lent ks vs xs zs ms cs ls work) → RowsSound h ks vs xs zs ms cs ls

@@ -1,5 +1,5 @@
 -- The parts of a sound heap, as they are found out one after another. Assumes nothing.
-use Prim.Native.Nat.{ℕ, _*_, _<_, _≤_}
+use Prim.Native.Nat.{ℕ, _*_, _<_}
 use mathlib.Core.Path.{_≡_}
 use mathlib.Core.Bool.{true}
 use mathlib.Core.List.{List, map}
@@ -9,6 +9,7 @@ use Rattle.rules.specs.declared.Head.{Head}
 use Rattle.rules.specs.Field.{variableOf, heldOf}
 use Rattle.rules.specs.Sound.{Live, Words, Variables, TableRow, ZeroFrom, NotIn, Ranged, pointers, heldAmong, FreeList}
 use Rattle.checks.specs.CellRows.{CellRows}
+use Rattle.checks.specs.Counts.{TablesReady}
 
 pub record CellsSound (n : ℕ) (ks : List ℕ) (vs xs : List ℤ) : Type 0 where
   pub words : Words n ks vs
@@ -56,10 +57,6 @@ pub record WorkSound (h : Head) (ks : List ℕ) (vs xs : List ℤ) (zs ms cs : L
 -- what the work row's checks lean on: lengths, and what was found out before
 pub record WorkReady (h : Head) (ks : List ℕ) (vs xs : List ℤ) (zs ms cs work : List ℕ) : Type 0 where
   pub cells : CellRows (h .n) ks vs
-  pub zct-fits : h .zct ≤ length zs
-  pub mrt-fits : h .mrt ≤ length ms
-  pub counts-fits : h .mrt ≤ length cs
-  pub work-long : length work ≡ h .n
-  pub zct-row : TableRow (h .n) ks zs (h .zct)
-  pub mrt-row : TableRow (h .n) ks ms (h .mrt)
+  pub tables : TablesReady (h .n) ks zs (h .zct) ms cs (h .mrt)
   pub named : Named xs
+  pub work-long : length work ≡ h .n

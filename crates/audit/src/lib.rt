@@ -5,9 +5,9 @@ ghost use lib.ListN.{length, replicate};
 ghost use Rattle.rules.specs.Head.{Says, Limits};
 ghost use Rattle.rules.specs.Rows.{lent};
 ghost use Rattle.rules.specs.Sound.{TableRow, FreeList, Lengths, Sized, Sound};
-ghost use Rattle.rules.specs.Refusals.{leaves, auditOf};
+ghost use Rattle.rules.specs.Refusals.{outcome, leaves, auditOf};
 ghost use Rattle.checks.specs.CellRows.{CellRows};
-ghost use Rattle.checks.specs.Counts.{Within};
+ghost use Rattle.checks.specs.Counts.{TablesReady, Within};
 ghost use Rattle.audit.specs.Parts.{CellsSound, TableSound, CountsSound, TablesSound, PointersSound, HeldSound, RowsSound, WorkSound, WorkReady, Named};
 use cells::clear;
 use cells::mark_held;
@@ -94,26 +94,21 @@ pub fn tables_sound(
 
 // Do the tables agree with the pointers?
 pub fn pointers_sound(
+    head: Head,
     kinds: &[u8],
     values: &[i32],
-    n: usize,
     zct: &[u32],
-    zused: usize,
     mrt: &[u32],
     counts: &[u32],
-    mused: usize,
-    cap: usize,
     work: &mut [u32],
 ) -> bool
-    requires { ⌜ CellRows n (now kinds) (now values) ⌝ }
-    requires { ⌜ (zused ≤ length (now zct)) × ((mused ≤ length (now mrt)) × ((mused ≤ length (now counts)) × (length (now work) ≡ n))) ⌝ }
-    requires { ⌜ TableRow n (now kinds) (now zct) zused ⌝ }
-    requires { ⌜ TableRow n (now kinds) (now mrt) mused ⌝ }
-    ensures { λ r. ⌜ Says r (PointersSound n (now (kinds .entry)) (now (values .entry)) (now (zct .entry)) zused (now (mrt .entry)) (now (counts .entry)) mused cap) ⌝ }
+    requires { ⌜ CellRows (head .n) (now kinds) (now values) ⌝ }
+    requires { ⌜ (length (now work) ≡ head .n) × TablesReady (head .n) (now kinds) (now zct) (head .zct) (now mrt) (now counts) (head .mrt) ⌝ }
+    ensures { λ r. ⌜ Says r (PointersSound (head .n) (now (kinds .entry)) (now (values .entry)) (now (zct .entry)) (head .zct) (now (mrt .entry)) (now (counts .entry)) (head .mrt) (head .cap)) ⌝ }
 {
     clear(work);
-    count(kinds, values, n, work);
-    compare(kinds, n, zct, zused, mrt, counts, mused, cap, work)
+    count(kinds, values, head.n, work);
+    compare(head, kinds, zct, mrt, counts, work)
 }
 
 // Does some variable hold each of the used entries?
@@ -186,17 +181,13 @@ pub fn work_sound(
     ensures { λ r. ⌜ Says r (WorkSound head (now (kinds .entry)) (now (values .entry)) (now (variables .entry)) (now (zct .entry)) (now (mrt .entry)) (now (counts .entry))) ⌝ }
 {
     let n = head.n;
-    let first = head.free;
-    let zused = head.zct;
-    let mused = head.mrt;
-    let cap = head.cap;
-    if !frees_sound(kinds, values, n, first, work) {
+    if !frees_sound(kinds, values, n, head.free, work) {
         return false;
     }
-    if !pointers_sound(kinds, values, n, zct, zused, mrt, counts, mused, cap, work) {
+    if !pointers_sound(head, kinds, values, zct, mrt, counts, work) {
         return false;
     }
-    if !held_sound(variables, n, zct, zused, work) {
+    if !held_sound(variables, n, zct, head.zct, work) {
         return false;
     }
     true
@@ -244,51 +235,6 @@ pub fn sound(
     yes
 }
 
-// Are the rows' lengths those that the head says?
-pub fn lengths(
-    head: Head,
-    kinds: usize,
-    values: usize,
-    variables: usize,
-    zct: usize,
-    mrt: usize,
-    counts: usize,
-    log: usize,
-    work: usize,
-) -> bool
-    requires { ⌜ Limits head ⌝ }
-    ensures { λ r. ⌜ Says r (Lengths head kinds values variables zct mrt counts log work) ⌝ }
-{
-    let n = head.n;
-    let m = head.m;
-    let l = head.l;
-    if kinds != 2 * n {
-        return false;
-    }
-    if values != 2 * n {
-        return false;
-    }
-    if variables != m {
-        return false;
-    }
-    if zct != n {
-        return false;
-    }
-    if mrt != n {
-        return false;
-    }
-    if counts != n {
-        return false;
-    }
-    if log != 2 * l {
-        return false;
-    }
-    if work != n {
-        return false;
-    }
-    true
-}
-
 // Are the head's numbers within the limits, and the rows' lengths as it says?
 pub fn sized(
     head: Head,
@@ -306,10 +252,28 @@ pub fn sized(
     if !head.within() {
         return false;
     }
-    if !lengths(head, kinds, values, variables, zct, mrt, counts, log, work) {
+    let n = head.n;
+    if kinds != 2 * n || values != 2 * n {
+        return false;
+    }
+    if variables != head.m || log != 2 * head.l {
+        return false;
+    }
+    if zct != n || mrt != n || counts != n || work != n {
         return false;
     }
     true
+}
+
+// An outcome that gives the head back, with a count of 0.
+pub fn answer(status: usize, head: Head) -> Outcome
+    ensures { λ r. ⌜ r ≡ outcome status head 0 ⌝ }
+{
+    Outcome {
+        status: status,
+        head: head,
+        count: 0,
+    }
 }
 
 // The audit: 0 exactly when the heap is sound, 1 where a number or a length is outside its limits, else 4.
@@ -339,22 +303,10 @@ pub fn audit(
         log.len(),
         work.len(),
     ) {
-        return Outcome {
-            status: 1,
-            head: head,
-            count: 0,
-        };
+        return answer(1, head);
     }
     if !sound(head, kinds, values, variables, zct, mrt, counts, log, work) {
-        return Outcome {
-            status: 4,
-            head: head,
-            count: 0,
-        };
+        return answer(4, head);
     }
-    Outcome {
-        status: 0,
-        head: head,
-        count: 0,
-    }
+    answer(0, head)
 }

@@ -7,8 +7,9 @@ ghost use Rattle.rules.specs.Head.{Says};
 ghost use Rattle.rules.specs.Sound.{mark, Live, Mark, WordAt, Words, Variable, Variables, TableRow, ZeroFrom, At, Ranged, pointsTo};
 ghost use Rattle.checks.specs.CellRows.{CellRows};
 ghost use Rattle.checks.specs.Walk.{Walked, AllMet};
-ghost use Rattle.checks.specs.Counts.{Counted, Agree, AllHeld, Within};
+ghost use Rattle.checks.specs.Counts.{Counted, Agree, TablesReady, AllHeld, Within};
 use cells::address_or;
+use rules::Head;
 
 // Does b name a cell that isn't free?
 pub fn live(kinds: &[u8], n: usize, b: usize) -> bool
@@ -203,40 +204,31 @@ pub fn single(kinds: &[u8], a: usize, w: u32) -> bool
 
 // Do the tables agree with the work row's counts? Both are walked in step with the address.
 pub fn compare(
+    head: Head,
     kinds: &[u8],
-    n: usize,
     zct: &[u32],
-    zused: usize,
     mrt: &[u32],
     counts: &[u32],
-    mused: usize,
-    cap: usize,
     work: &[u32],
 ) -> bool
-    requires { ⌜ (length (now kinds) ≡ 2 * n) × ((n ≤ 1024) × (length (now work) ≡ n)) ⌝ }
-    requires { ⌜ (zused ≤ length (now zct)) × ((mused ≤ length (now mrt)) × (mused ≤ length (now counts))) ⌝ }
-    requires { ⌜ TableRow n (now kinds) (now zct) zused ⌝ }
-    requires { ⌜ TableRow n (now kinds) (now mrt) mused ⌝ }
-    ensures { λ r. ⌜ Says r (Agree n (now (kinds .entry)) (now (zct .entry)) zused (now (mrt .entry)) (now (counts .entry)) mused cap (now (work .entry))) ⌝ }
+    requires { ⌜ (length (now work) ≡ head .n) × TablesReady (head .n) (now kinds) (now zct) (head .zct) (now mrt) (now counts) (head .mrt) ⌝ }
+    ensures { λ r. ⌜ Says r (Agree (head .n) (now (kinds .entry)) (now (zct .entry)) (head .zct) (now (mrt .entry)) (now (counts .entry)) (head .mrt) (head .cap) (now (work .entry))) ⌝ }
 {
     let mut z = 0;
     let mut q = 0;
     let mut a = 0;
-    while a < n {
+    while a < head.n {
         let w = work[a];
-        if stands(zct, zused, z, a) {
-            if stands(mrt, mused, q, a) {
-                return false;
-            }
-            if w != 0 {
+        if stands(zct, head.zct, z, a) {
+            if w != 0 || stands(mrt, head.mrt, q, a) {
                 return false;
             }
             z += 1;
             a += 1;
             continue;
         }
-        if stands(mrt, mused, q, a) {
-            if !exact(counts[q], cap, w) {
+        if stands(mrt, head.mrt, q, a) {
+            if !exact(counts[q], head.cap, w) {
                 return false;
             }
             q += 1;

@@ -8,13 +8,10 @@ clear-requires : tie.Need-clear-requires
 clear-requires c κs = search needs
 
 count-requires : tie.Need-count-requires
-count-requires c κs = let p = c .before .before .before .before .before .before .before .before .before .before .pre in (p .0, rw (p .1 .0 .1 .1 .1) at (c .before .before .before .clear .ensures))
+count-requires c κs = let p = c .before .before .before .before .before .before .before .before .before .before .pre in (p .0, rw (p .1 .0) at (c .before .before .before .clear .ensures))
 
 compare-requires : tie.Need-compare-requires
-compare-requires c κs =
-    let p = c .before .before .before .before .before .before .before .before .before .before .before .before .before .before .pre in
-    let k = c .before .before .before .count .ensures in
-    ((p .0 .kinds, (p .0 .most, k .long)), ((p .1 .0 .0, (p .1 .0 .1 .0, p .1 .0 .1 .1 .0)), (p .1 .1 .0, p .1 .1 .1)))
+compare-requires c κs = search needs
 
 same-length : tie.Need-same-length
 same-length c = search needs
@@ -23,7 +20,7 @@ returns : tie.Need-returns
 returns c =
     let p = c .before .before .before .before .before .before .before .before .before .before .before .before .before .before .before .pre .1 .1 in
     let k = c .before .before .before .before .count .ensures in
-    same (agree-pointers _ _ _ _ _ _ _ _ _ _ (p .0) (p .1) k) (pointers-agree _ _ _ _ _ _ _ _ _ _ (p .0) (p .1) k) (c .compare .ensures)
+    same (agree-pointers _ _ _ _ _ _ _ _ _ _ (p .zct-row) (p .mrt-row) k) (pointers-agree _ _ _ _ _ _ _ _ _ _ (p .zct-row) (p .mrt-row) k) (c .compare .ensures)
 
 pub pointers-sound-spec : {M : Type 1} → statement M
 pointers-sound-spec =

@@ -15,9 +15,7 @@ returns : tie.Need-returns
 returns c = isn't (λ s. c .before .before .before .frees-sound .ensures .no (not-true _ (c .if1 .taken)) (s .free-list))
 
 pointers-sound-requires : tie.Need-pointers-sound-requires
-pointers-sound-requires c κs =
-    let p = c .before .before .before .before .before .before .before .before .before .before .before .pre in
-    (p .cells, ((p .zct-fits, (p .mrt-fits, (p .counts-fits, omega arith))), (p .zct-row, p .mrt-row)))
+pointers-sound-requires c κs = let p = c .before .before .before .before .before .before .before .before .before .before .before .pre in (p .cells, (omega arith, p .tables))
 
 same-length-2 : tie.Need-same-length-2
 same-length-2 c = search needs
@@ -28,7 +26,7 @@ returns-2 c = isn't (λ s. c .before .before .before .pointers-sound .ensures .n
 held-sound-requires : tie.Need-held-sound-requires
 held-sound-requires c κs =
     let p = c .before .before .before .before .before .before .before .before .before .before .before .before .before .before .before .before .pre in
-    ((p .zct-fits, omega arith), (λ j h. p .zct-row .live j h .cell, p .named))
+    ((p .tables .zct-fits, omega arith), (λ j h. p .tables .zct-row .live j h .cell, p .named))
 
 same-length-3 : tie.Need-same-length-3
 same-length-3 c = search needs

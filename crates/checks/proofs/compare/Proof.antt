@@ -1,17 +1,18 @@
 use Rattle.rules.proofs.Answers.{is, isn't}
-use Rattle.checks.proofs.Steps.{Gone, gone-none, turn-zct, turn-mrt, turn-one, agreed, lonely, both, busy, wrong}
 use native.Mathlib.Omega.{arith}
 use borrow.Author.Needs.{needs}
 use borrow.Author.Tests.{not-true, not-false}
+use mathlib.Core.Logic.{⊎-elim}
 use Prim.Native.Nat.{_-_}
+use Rattle.checks.proofs.Steps.{Gone, gone-none, turn-zct, turn-mrt, turn-one, agreed, lonely, both, busy, wrong}
 use Rattle.checks.proofs.compare.Statement.{statement}
 use Rattle.checks.proofs.compare.Tie as tie
 
 abbrev Inv-loop : tie.InvT-loop
-Inv-loop kinds n zct zused mrt counts mused cap work z₀ q₀ a₀ z q a = Gone n kinds zct zused mrt counts mused cap work a z q
+Inv-loop head kinds zct mrt counts work z₀ q₀ a₀ z q a = Gone (head .n) kinds zct (head .zct) mrt counts (head .mrt) (head .cap) work a z q
 
 abbrev μ-loop : tie.MeasureT-loop
-μ-loop kinds n zct zused mrt counts mused cap work z₀ q₀ a₀ z q a = n - a
+μ-loop head kinds zct mrt counts work z₀ q₀ a₀ z q a = head .n - a
 
 loop-holds : tie.Need-loop-holds Inv-loop μ-loop
 loop-holds c = gone-none _ _ _ _ _ _ _ _ _
@@ -29,10 +30,9 @@ stands-requires-2 : tie.Need-stands-requires-2 Inv-loop μ-loop
 stands-requires-2 c κs = search needs
 
 returns : tie.Need-returns Inv-loop μ-loop
-returns c = isn't (λ A. both _ _ _ _ _ _ _ _ _ _ _ _ A (c .before .before .before .stands .ensures .yes (c .before .before .if1 .taken)) (c .before .stands2 .ensures .yes (c .if2 .taken)))
-
-returns-2 : tie.Need-returns-2 Inv-loop μ-loop
-returns-2 c = isn't (λ A. busy _ _ _ _ _ _ _ _ _ _ _ 0 A (c .before .before .before .before .stands .ensures .yes (c .before .before .before .if1 .taken)) (c .if3 .taken))
+returns c =
+    let z = c .before .before .stands .ensures .yes (c .before .if2 .taken) in
+    isn't (λ A. ⊎-elim (λ w. busy _ _ _ _ _ _ _ _ _ _ _ 0 A z (w .taken)) (λ w. both _ _ _ _ _ _ _ _ _ _ _ _ A z (w .1 .ensures .yes (w .2 .taken))) (c .if3 .came))
 
 add-z : tie.Need-add-z Inv-loop μ-loop
 add-z c = omega arith
@@ -45,8 +45,8 @@ loop-less c = omega arith
 
 loop-again : tie.Need-loop-again Inv-loop μ-loop
 loop-again c =
-    let p = c .before .before .before .before .before .before .before .before .before .before .before .before .before .pre .1 .1 in
-    turn-zct _ _ _ _ _ _ _ _ _ (p .0) (p .1) _ _ _ (c .before .before .before .before .before .before .before .loop .inv) (c .before .before .before .before .before .before .loop-test .taken) (c .before .before .before .before .stands .ensures .yes (c .before .before .before .if1 .taken)) (c .before .before .stands2 .ensures .no (c .before .if2 .left)) (c .if3 .left)
+    let p = c .before .before .before .before .before .before .before .before .before .before .before .before .before .before .pre .1 in
+    turn-zct _ _ _ _ _ _ _ _ _ (p .zct-row) (p .mrt-row) _ _ _ (c .before .before .before .before .before .before .before .before .loop .inv) (c .before .before .before .before .before .before .if1 .taken) (c .before .before .before .before .stands .ensures .yes (c .before .before .before .if2 .taken)) (c .before .stands2 .ensures .no (c .if4 .left)) (c .before .before .if3 .left)
 
 stands-requires-3 : tie.Need-stands-requires-3 Inv-loop μ-loop
 stands-requires-3 c κs = search needs
@@ -55,13 +55,13 @@ mul-exact : tie.Need-mul-exact Inv-loop μ-loop
 mul-exact c = omega arith
 
 shared-slice-read-exact : tie.Need-shared-slice-read-exact Inv-loop μ-loop
-shared-slice-read-exact c = omega (arith, (c .before .before .stands3 .ensures .yes (c .before .if4 .taken)) .0)
+shared-slice-read-exact c = omega (arith, (c .before .before .stands3 .ensures .yes (c .before .if5 .taken)) .0)
 
 exact-requires : tie.Need-exact-requires Inv-loop μ-loop
 exact-requires c κs = search needs
 
-returns-3 : tie.Need-returns-3 Inv-loop μ-loop
-returns-3 c = isn't (λ A. wrong _ _ _ _ _ _ _ _ _ _ 0 _ A (c .before .before .before .before .stands3 .ensures .yes (c .before .before .before .if4 .taken)) (c .before .exact .ensures .no (not-true _ (c .if5 .taken))))
+returns-2 : tie.Need-returns-2 Inv-loop μ-loop
+returns-2 c = isn't (λ A. wrong _ _ _ _ _ _ _ _ _ _ 0 _ A (c .before .before .before .before .stands3 .ensures .yes (c .before .before .before .if5 .taken)) (c .before .exact .ensures .no (not-true _ (c .if6 .taken))))
 
 add-q : tie.Need-add-q Inv-loop μ-loop
 add-q c = omega arith
@@ -74,16 +74,16 @@ loop-less-2 c = omega arith
 
 loop-again-2 : tie.Need-loop-again-2 Inv-loop μ-loop
 loop-again-2 c =
-    let p = c .before .before .before .before .before .before .before .before .before .before .before .before .before .before .before .pre .1 .1 in
-    turn-mrt _ _ _ _ _ _ _ _ _ (p .0) (p .1) _ _ _ (c .before .before .before .before .before .before .before .before .before .loop .inv) (c .before .before .before .before .before .before .before .before .loop-test .taken) (c .before .before .before .before .before .before .stands .ensures .no (c .before .before .before .before .before .if1 .left)) (c .before .before .before .before .stands3 .ensures .yes (c .before .before .before .if4 .taken)) (c .before .exact .ensures .yes (not-false _ (c .if5 .left)))
+    let p = c .before .before .before .before .before .before .before .before .before .before .before .before .before .before .before .before .pre .1 in
+    turn-mrt _ _ _ _ _ _ _ _ _ (p .zct-row) (p .mrt-row) _ _ _ (c .before .before .before .before .before .before .before .before .before .before .loop .inv) (c .before .before .before .before .before .before .before .before .if1 .taken) (c .before .before .before .before .before .before .stands .ensures .no (c .before .before .before .before .before .if2 .left)) (c .before .before .before .before .stands3 .ensures .yes (c .before .before .before .if5 .taken)) (c .before .exact .ensures .yes (not-false _ (c .if6 .left)))
 
 single-requires : tie.Need-single-requires Inv-loop μ-loop
 single-requires c κs = search needs
 
-returns-4 : tie.Need-returns-4 Inv-loop μ-loop
-returns-4 c =
-    let p = c .before .before .before .before .before .before .before .before .before .before .before .before .before .before .pre .1 .1 in
-    isn't (λ A. lonely _ _ _ _ _ _ _ _ _ (p .0) (p .1) _ _ _ (c .before .before .before .before .before .before .before .before .loop .inv) (c .before .before .before .before .before .before .before .loop-test .taken) (c .before .before .before .before .before .stands .ensures .no (c .before .before .before .before .if1 .left)) (c .before .before .before .stands3 .ensures .no (c .before .before .if4 .left)) (c .before .single .ensures .no (not-true _ (c .if6 .taken))) A)
+returns-3 : tie.Need-returns-3 Inv-loop μ-loop
+returns-3 c =
+    let p = c .before .before .before .before .before .before .before .before .before .before .before .before .before .before .before .pre .1 in
+    isn't (λ A. lonely _ _ _ _ _ _ _ _ _ (p .zct-row) (p .mrt-row) _ _ _ (c .before .before .before .before .before .before .before .before .before .loop .inv) (c .before .before .before .before .before .before .before .if1 .taken) (c .before .before .before .before .before .stands .ensures .no (c .before .before .before .before .if2 .left)) (c .before .before .before .stands3 .ensures .no (c .before .before .if5 .left)) (c .before .single .ensures .no (not-true _ (c .if7 .taken))) A)
 
 add-a-3 : tie.Need-add-a-3 Inv-loop μ-loop
 add-a-3 c = omega arith
@@ -93,13 +93,13 @@ loop-less-3 c = omega arith
 
 loop-again-3 : tie.Need-loop-again-3 Inv-loop μ-loop
 loop-again-3 c =
-    let p = c .before .before .before .before .before .before .before .before .before .before .before .before .before .before .pre .1 .1 in
-    turn-one _ _ _ _ _ _ _ _ _ (p .0) (p .1) _ _ _ (c .before .before .before .before .before .before .before .before .loop .inv) (c .before .before .before .before .before .before .before .loop-test .taken) (c .before .before .before .before .before .stands .ensures .no (c .before .before .before .before .if1 .left)) (c .before .before .before .stands3 .ensures .no (c .before .before .if4 .left)) (c .before .single .ensures .yes (not-false _ (c .if6 .left)))
+    let p = c .before .before .before .before .before .before .before .before .before .before .before .before .before .before .before .pre .1 in
+    turn-one _ _ _ _ _ _ _ _ _ (p .zct-row) (p .mrt-row) _ _ _ (c .before .before .before .before .before .before .before .before .before .loop .inv) (c .before .before .before .before .before .before .before .if1 .taken) (c .before .before .before .before .before .stands .ensures .no (c .before .before .before .before .if2 .left)) (c .before .before .before .stands3 .ensures .no (c .before .before .if5 .left)) (c .before .single .ensures .yes (not-false _ (c .if7 .left)))
 
-returns-5 : tie.Need-returns-5 Inv-loop μ-loop
-returns-5 c =
-    let p = c .before .before .before .before .before .before .before .pre .1 .1 in
-    is (agreed _ _ _ _ _ _ _ _ _ (p .0) (p .1) _ _ _ (c .before .loop .inv) (c .loop-test .left))
+returns-4 : tie.Need-returns-4 Inv-loop μ-loop
+returns-4 c =
+    let p = c .before .before .before .before .before .before .before .before .pre .1 in
+    is (agreed _ _ _ _ _ _ _ _ _ (p .zct-row) (p .mrt-row) _ _ _ (c .before .before .loop .inv) (c .if1 .left))
 
 pub compare-spec : {M : Type 1} → statement M
 compare-spec =
@@ -113,7 +113,6 @@ compare-spec =
     stands-requires
     stands-requires-2
     returns
-    returns-2
     add-z
     add-a
     loop-less
@@ -122,14 +121,14 @@ compare-spec =
     mul-exact
     shared-slice-read-exact
     exact-requires
-    returns-3
+    returns-2
     add-q
     add-a-2
     loop-less-2
     loop-again-2
     single-requires
-    returns-4
+    returns-3
     add-a-3
     loop-less-3
     loop-again-3
-    returns-5)
+    returns-4)
