@@ -289,7 +289,7 @@ pub fn audit(
     work: &mut [u32],
 ) -> Outcome
     ensures { λ r.
-        ⌜ leaves r (lent (now (kinds .entry)) (now (values .entry)) (now (variables .entry)) (now (zct .entry)) (now (mrt .entry)) (now (counts .entry)) (now (log .entry)) (now (work .exit)))
+        ⌜ leaves r (lent (now (kinds .exit)) (now (values .exit)) (now (variables .exit)) (now (zct .exit)) (now (mrt .exit)) (now (counts .exit)) (now (log .exit)) (now (work .exit)))
         ≡ auditOf head (lent (now (kinds .entry)) (now (values .entry)) (now (variables .entry)) (now (zct .entry)) (now (mrt .entry)) (now (counts .entry)) (now (log .entry)) (now (work .entry))) ⌝ }
 {
     if !sized(
