@@ -1,0 +1,62 @@
+-- The parts of a sound heap, as they are found out one after another. Assumes nothing.
+use Prim.Native.Nat.{ℕ, _*_, _<_}
+use mathlib.Core.Path.{_≡_}
+use mathlib.Core.Bool.{true}
+use mathlib.Core.List.{List, map}
+use lib.ListN.{length, getD}
+use lib.IntN.{ℤ}
+use Rattle.rules.specs.declared.Head.{Head}
+use Rattle.rules.specs.Field.{variableOf, heldOf}
+use Rattle.rules.specs.Sound.{Live, Words, Variables, TableRow, ZeroFrom, NotIn, Ranged, pointers, heldAmong, FreeList}
+use Rattle.checks.specs.CellRows.{CellRows}
+use Rattle.checks.specs.Counts.{TablesReady}
+
+pub record CellsSound (n : ℕ) (ks : List ℕ) (vs xs : List ℤ) : Type 0 where
+  pub words : Words n ks vs
+  pub variables : Variables n ks xs
+
+pub record TableSound (n : ℕ) (ks row : List ℕ) (used : ℕ) : Type 0 where
+  pub table : TableRow n ks row used
+  pub zeros : ZeroFrom row used
+
+pub record CountsSound (cs : List ℕ) (used cap : ℕ) : Type 0 where
+  pub ranged : Ranged cs used cap
+  pub zeros : ZeroFrom cs used
+
+pub record TablesSound (n : ℕ) (ks zs : List ℕ) (zct : ℕ) (ms cs : List ℕ) (mrt cap : ℕ) : Type 0 where
+  pub zct-sound : TableSound n ks zs zct
+  pub mrt-sound : TableSound n ks ms mrt
+  pub counts-sound : CountsSound cs mrt cap
+
+-- the tables agree with the pointers
+pub record PointersSound (n : ℕ) (ks : List ℕ) (vs : List ℤ) (zs : List ℕ) (zct : ℕ) (ms cs : List ℕ) (mrt cap : ℕ) : Type 0 where
+  pub apart : (i j : ℕ) → i < zct → j < mrt → getD zs i 0 ≡ getD ms j 0 → ⊥
+  pub one : (a : ℕ) → Live n ks a → NotIn zs zct a → NotIn ms mrt a → pointers n ks vs a (2 * n) ≡ 1
+  pub none : (j : ℕ) → j < zct → pointers n ks vs (getD zs j 0) (2 * n) ≡ 0
+  pub exact : (j : ℕ) → j < mrt → getD cs j 0 < cap → pointers n ks vs (getD ms j 0) (2 * n) ≡ getD cs j 0
+
+-- some variable holds each ZCT cell
+abbrev pub HeldSound : ℕ → List ℤ → List ℕ → ℕ → Type 0
+HeldSound n xs zs zct = (j : ℕ) → j < zct → heldAmong n xs (getD zs j 0) (length xs) ≡ true
+
+-- the variables' words are -1 or addresses
+abbrev pub Named : List ℤ → Type 0
+Named xs = map variableOf (map heldOf xs) ≡ xs
+
+-- what is found out without the work row, and what with it
+pub record RowsSound (h : Head) (ks : List ℕ) (vs xs : List ℤ) (zs ms cs ls : List ℕ) : Type 0 where
+  pub cells : CellsSound (h .n) ks vs xs
+  pub tables : TablesSound (h .n) ks zs (h .zct) ms cs (h .mrt) (h .cap)
+  pub log-zero : ZeroFrom ls 0
+
+pub record WorkSound (h : Head) (ks : List ℕ) (vs xs : List ℤ) (zs ms cs : List ℕ) : Type 0 where
+  pub free-list : FreeList (h .n) ks vs (h .free)
+  pub agree : PointersSound (h .n) ks vs zs (h .zct) ms cs (h .mrt) (h .cap)
+  pub held : HeldSound (h .n) xs zs (h .zct)
+
+-- what the work row's checks lean on: lengths, and what was found out before
+pub record WorkReady (h : Head) (ks : List ℕ) (vs xs : List ℤ) (zs ms cs work : List ℕ) : Type 0 where
+  pub cells : CellRows (h .n) ks vs
+  pub tables : TablesReady (h .n) ks zs (h .zct) ms cs (h .mrt)
+  pub named : Named xs
+  pub work-long : length work ≡ h .n

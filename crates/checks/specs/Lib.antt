@@ -1,0 +1,3 @@
+pub mod CellRows
+pub mod Walk
+pub mod Counts
