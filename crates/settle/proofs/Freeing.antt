@@ -1,14 +1,14 @@
 -- Laws of one cell's freeing: the tables without it, and its fields let go. Assumes nothing.
-use mathlib.Core.Path.{_≡_, refl, sym, ap, _∙_}
+use mathlib.Core.Path.{_≡_, refl, _∙_}
 use mathlib.Core.List.{List, _++_}
 use Prim.Native.Nat.{ℕ, _+_, _*_, _≤_, _<_}
 use native.Mathlib.Omega.{arith}
-use lib.ListN.{length, take, getD}
+use lib.ListN.{length, getD}
 use lib.IntN.{ℤ, pos}
 use lib.Seq.{getD-take}
 use Rattle.rules.specs.declared.Used.{Used}
 use Rattle.rules.specs.declared.Field.{Field}
-use Rattle.rules.specs.declared.Field.the-variants.{Nothing, Figure, Cell, Free}
+use Rattle.rules.specs.declared.Field.the-variants.{Nothing, Cell, Free}
 use Rattle.rules.specs.Field.{fieldOf}
 use Rattle.rules.specs.Rules.{Tables, destroys, leaveZct, apply, replay}
 use Rattle.rules.specs.Settle.{Heap, place, field, store, drops, freeCell}
@@ -16,7 +16,6 @@ use Rattle.rules.specs.Rows.{Inside, Ready, Cells, Rows}
 use Rattle.rules.proofs.Unique.{is-take}
 use Rattle.tables.proofs.Single.{all-at, is-padded}
 use Rattle.cells.proofs.Storing.{inside-more, cell-lengths, read}
-use Rattle.settle.specs.declared.Turn.{Turn}
 use Rattle.settle.specs.Reclaiming.{lowTo, Freed}
 
 pub inside-as : {n m : ℕ} (f : Field) → n ≡ m → Inside n f → Inside m f

@@ -17,7 +17,7 @@ use Rattle.rules.specs.declared.Field.{Field}
 use Rattle.rules.specs.declared.Field.the-variants.{Nothing, Figure, Cell, Free}
 use Rattle.rules.specs.Table.{has, Ascending}
 use Rattle.rules.specs.Rules.{Tables, destroys, leaveZct, apply, replay}
-use Rattle.rules.specs.Settle.{Heap, field, holds, pick, drops, onPick, freeCell, reclaim}
+use Rattle.rules.specs.Settle.{Heap, holds, pick, drops, freeCell, reclaim}
 use Rattle.rules.specs.Rows.{Rows}
 use Rattle.rules.proofs.Invariant.{View, view}
 use Rattle.rules.proofs.Tables.{view-other, remove-other}

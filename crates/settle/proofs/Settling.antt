@@ -1,19 +1,18 @@
 -- Laws of a settle on all rows, and how a caller meets and uses its contract. Assumes nothing.
-use mathlib.Core.Path.{_≡_, refl, sym, ap, _∙_}
+use mathlib.Core.Path.{_≡_, refl, ap, _∙_}
 use mathlib.Core.Bool.{Bool, true, false}
 use mathlib.Core.Option.{Option, none, some}
-use mathlib.Core.List.{List, [], map}
-use Prim.Native.Nat.{ℕ, zero, suc, _+_, _<_}
+use mathlib.Core.List.{List, []}
+use Prim.Native.Nat.{ℕ, zero, suc, _+_}
 use native.Mathlib.Omega.{arith}
-use lib.ListN.{length, getD, replicate, length-replicate}
+use lib.ListN.{length, replicate, length-replicate}
 use lib.IntN.{ℤ}
 use Rattle.rules.specs.declared.Used.{Used}
 use Rattle.rules.specs.Head.{Sizes}
-use Rattle.rules.specs.Field.{variableOf}
-use Rattle.rules.specs.Rules.{Tables, Transaction, replay}
-use Rattle.rules.specs.Settle.{Heap, pick, onPick, freeCell, reclaim, replayed, settledBy, settled}
+use Rattle.rules.specs.Rules.{replay}
+use Rattle.rules.specs.Settle.{Heap, pick, freeCell, reclaim, replayed, settledBy, settled}
 use Rattle.rules.specs.Step.{settledIf}
-use Rattle.rules.specs.Rows.{Ready, Rows, Logged, Whole}
+use Rattle.rules.specs.Rows.{Ready, Rows, Whole}
 use Rattle.cells.specs.Marks.{Marks}
 use Rattle.cells.proofs.Logging.{logged-none}
 use Rattle.settle.specs.declared.Reclaimed.{Reclaimed}
@@ -81,6 +80,17 @@ settled-as {n} {cap} {log′ = log′} {work′ = work′} s hs h l m en ec em W
       log-zero = el;
       work-zero = w;
     }
+
+-- where the holds that were counted are the heap's own variables, that is `settled`
+module _ {s : Sizes} {n cap : ℕ} {ks : List ℕ} {xs vs : List ℤ} {zs ms cs log work : List ℕ} {l : ℕ} {r : Reclaimed} {h : Heap}
+    (S : Settled s n cap (h .shape .variables) ks xs vs zs ms cs log work l r h) where
+  pub settled-whole : Whole n cap ks xs vs zs ms cs log work 0 (r .first) (r .used) (settled s h)
+  unfolding settled
+  settled-whole = S .whole
+
+  pub settled-count : settled s h .freed ≡ h .freed + r .freed
+  unfolding settled
+  settled-count = S .count
 
 -- ---- a settle where one is to be made
 

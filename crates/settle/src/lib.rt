@@ -16,13 +16,13 @@ ghost use Rattle.cells.specs.Marks.{Marks};
 ghost use Rattle.settle.specs.Replaying.{Replayable};
 ghost use Rattle.settle.specs.Reclaiming.{lowTo, Heaped, Freed, Scan, Unheld, Reclaimable, Done};
 ghost use Rattle.settle.specs.Settling.{Settleable, Settled, RoomMade};
-use rules::Field;
-use rules::Used;
 use cells::clear;
 use cells::entry_at;
 use cells::field_at;
 use cells::free_cell;
 use cells::mark_held;
+use rules::Field;
+use rules::Used;
 use tables::allocate;
 use tables::create;
 use tables::cut_at;
@@ -285,9 +285,9 @@ pub struct Room {
     pub freed: usize,
 }
 
-// What a reclaiming left, with the log's length beside it.
-pub fn with_log(r: Reclaimed, len: usize) -> Room
-    ensures { λ o. ⌜ o ≡ record { first = r .first; used = r .used; len = len; freed = r .freed } ⌝ }
+// What a settle left: its log is empty.
+pub fn emptied(r: Reclaimed) -> Room
+    ensures { λ o. ⌜ o ≡ record { first = r .first; used = r .used; len = 0; freed = r .freed } ⌝ }
 {
     let first = r.first;
     let used = r.used;
@@ -295,8 +295,20 @@ pub fn with_log(r: Reclaimed, len: usize) -> Room
     Room {
         first: first,
         used: used,
-        len: len,
+        len: 0,
         freed: freed,
+    }
+}
+
+// Where no settle was made, all is as it was.
+pub fn as_it_was(first: usize, used: Used, len: usize) -> Room
+    ensures { λ o. ⌜ o ≡ record { first = first; used = used; len = len; freed = 0 } ⌝ }
+{
+    Room {
+        first: first,
+        used: used,
+        len: len,
+        freed: 0,
     }
 }
 
@@ -334,12 +346,7 @@ pub fn settle_if(
             used,
             cap,
         );
-        return with_log(r, 0);
+        return emptied(r);
     }
-    let r = Reclaimed {
-        first: first,
-        used: used,
-        freed: 0,
-    };
-    with_log(r, len)
+    as_it_was(first, used, len)
 }

@@ -6,62 +6,47 @@ use Rattle.settle.proofs.Freeing.{sized, freed-as}
 use borrow.Author.Needs.{needs}
 use Rattle.settle.proofs.free_one.Statement.{statement}
 use Rattle.settle.proofs.free_one.Tie as tie
-use Rattle.settle.proofs.free_one.Reads as reads
-use Rattle.settle.proofs.free_one.Lts as lts
-use Rattle.cells.proofs.field_at.Reads as field-at-reads
-use Rattle.cells.proofs.free_cell.Reads as free-cell-reads
-use Rattle.settle.proofs.lower_to.Reads as lower-to-reads
-use Rattle.settle.proofs.release.Reads as release-reads
 
--- src/lib.rt:164:13
 mul-w : tie.Need-mul-w
 mul-w c = let s = c .before .before .before .before in
     let S = sized (s .pre .0 .rows) (s .args .p) (s .pre .1) in
     search needs
 
--- src/lib.rt:164:13
 slice-read-w : tie.Need-slice-read-w
 slice-read-w c = let s = c .before .before .before .before .before in
     let S = sized (s .pre .0 .rows) (s .args .p) (s .pre .1) in
     S .here
 
--- src/lib.rt:165:13
 cast-a : tie.Need-cast-a
 cast-a c = let s = c .before .before .before .before .before in
     let S = sized (s .pre .0 .rows) (s .args .p) (s .pre .1) in
     record { fits = omega arith }
 
--- src/lib.rt:168:37
 mul-field-at : tie.Need-mul-field-at
 mul-field-at c = let s = c .before .before .before .before .before .before .before .before in
     let S = sized (s .pre .0 .rows) (s .args .p) (s .pre .1) in
     record { fits = omega arith }
 
--- src/lib.rt:168:9
 field-at-requires : tie.Need-field-at-requires
 field-at-requires c κs = let s = c .before .before .before .before .before .before .before .before in
     let S = sized (s .pre .0 .rows) (s .args .p) (s .pre .1) in
     omega arith
 
--- src/lib.rt:169:37
 mul-field-at-2 : tie.Need-mul-field-at-2
 mul-field-at-2 c = let s = c .before .before .before .before .before .before .before .before .before .before .before in
     let S = sized (s .pre .0 .rows) (s .args .p) (s .pre .1) in
     record { fits = omega arith }
 
--- src/lib.rt:169:37
 add-field-at : tie.Need-add-field-at
 add-field-at c = let s = c .before .before .before .before .before .before .before .before .before .before .before in
     let S = sized (s .pre .0 .rows) (s .args .p) (s .pre .1) in
     record { fits = omega arith }
 
--- src/lib.rt:169:9
 field-at-requires-2 : tie.Need-field-at-requires-2
 field-at-requires-2 c κs = let s = c .before .before .before .before .before .before .before .before .before .before .before in
     let S = sized (s .pre .0 .rows) (s .args .p) (s .pre .1) in
     omega arith
 
--- src/lib.rt:170:9
 release-requires : tie.Need-release-requires
 release-requires c κs = let y = c .before .before .before in
     let x = y .before .before .before in
@@ -69,45 +54,36 @@ release-requires c κs = let y = c .before .before .before in
     let R = s .pre .0 .rows in
     (tabled (R .ready) (R .bounds), (s .pre .1, (read-inside (R .cells) (x .field-at .result) _ (x .field-at .ensures), read-inside (R .cells) (y .field-at2 .result) _ (y .field-at2 .ensures))))
 
--- src/lib.rt:171:5
 free-cell-requires : tie.Need-free-cell-requires
 free-cell-requires c κs = let s = c .before .before .before .before .before .before .before .before .before .before .before .before .before .before .before .before .before .before .before .before .before .before .before .before in
     let S = sized (s .pre .0 .rows) (s .args .p) (s .pre .1) in
     ((S .kinds, S .values), S .next)
 
--- src/lib.rt:172:9
 lower-to-requires : tie.Need-lower-to-requires
 lower-to-requires c κs = let x = c .before .before .before .before .before .before .before .before .before .before .before .before .before .before .before .before .before .before .before in
     let R = x .before .before .before .before .before .before .before .before .before .pre .0 .rows in
     inside-more (x .field-at .result) (R .bounds .most) (read-inside (R .cells) (x .field-at .result) _ (x .field-at .ensures))
 
--- src/lib.rt:173:9
 lower-to-requires-2 : tie.Need-lower-to-requires-2
 lower-to-requires-2 c κs = let y = c .before .before .before .before .before .before .before .before .before .before .before .before .before .before .before .before .before in
     let R = y .before .before .before .before .before .before .before .before .before .before .before .before .pre .0 .rows in
     inside-more (y .field-at2 .result) (R .bounds .most) (read-inside (R .cells) (y .field-at2 .result) _ (y .field-at2 .ensures))
 
--- src/lib.rt:150:1
 same-length : tie.Need-same-length
 same-length c = search needs
 
--- src/lib.rt:150:1
 same-length-2 : tie.Need-same-length-2
 same-length-2 c = search needs
 
--- src/lib.rt:150:1
 same-length-3 : tie.Need-same-length-3
 same-length-3 c = search needs
 
--- src/lib.rt:150:1
 same-length-4 : tie.Need-same-length-4
 same-length-4 c = search needs
 
--- src/lib.rt:150:1
 same-length-5 : tie.Need-same-length-5
 same-length-5 c = search needs
 
--- src/lib.rt:150:1
 returns : tie.Need-returns
 returns c = let b = c .before .before .before .before .before in
     let u = b .before .before .before .before .before .before .before .before .before in

@@ -6,68 +6,52 @@ use Rattle.settle.proofs.Freeing.{cell-inside, let-go}
 use borrow.Author.Needs.{needs}
 use Rattle.settle.proofs.let_go.Statement.{statement}
 use Rattle.settle.proofs.let_go.Tie as tie
-use Rattle.settle.proofs.let_go.Reads as reads
-use Rattle.settle.proofs.let_go.Lts as lts
-use Rattle.tables.proofs.destroy.Reads as destroy-reads
 
--- src/lib.rt:111:27
 enum-told : tie.Need-enum-told
 enum-told c = search needs
 
--- src/lib.rt:112:29
 enum-told-2 : tie.Need-enum-told-2
 enum-told-2 c = search needs
 
--- src/lib.rt:113:21
 enum-known-f : tie.Need-enum-known-f
 enum-known-f c = search needs
 
--- src/lib.rt:113:64
 cast-destroy : tie.Need-cast-destroy
 cast-destroy c = let s = c .before .before .before .before .before .before .before .before .before in
     let m = s .pre .0 .bounds .most in
     let h = cell-inside (s .args .f) (c .before .before .before .before .f .given .1) (s .pre .1) in
     record { fits = omega arith }
 
--- src/lib.rt:113:27
 destroy-requires : tie.Need-destroy-requires
 destroy-requires c κs = let s = c .before .before .before .before .before .before .before .before .before in
     (s .pre .0, cell-inside (s .args .f) (c .before .before .before .before .f .given .1) (s .pre .1))
 
--- src/lib.rt:114:27
 enum-told-3 : tie.Need-enum-told-3
 enum-told-3 c = search needs
 
--- src/lib.rt:98:1
 returns : tie.Need-returns
 unfolding drops replay
 returns c = λ n t R. rw (c .enum-told .given .1) R
 
--- src/lib.rt:98:1
 returns-2 : tie.Need-returns-2
 unfolding drops replay
 returns-2 c = λ n t R. rw (c .enum-told2 .given .1) R
 
--- src/lib.rt:98:1
 same-length : tie.Need-same-length
 same-length c = search needs
 
--- src/lib.rt:98:1
 same-length-2 : tie.Need-same-length-2
 same-length-2 c = search needs
 
--- src/lib.rt:98:1
 same-length-3 : tie.Need-same-length-3
 same-length-3 c = search needs
 
--- src/lib.rt:98:1
 returns-3 : tie.Need-returns-3
 returns-3 c = let d = c .before .before .before .before .before .before in
     let a = d .before .before .before .before in
     let s = a .before .before .before .before .before .before in
     let-go (s .args .f) (a .before .f .given .1) (d .destroy .ensures)
 
--- src/lib.rt:98:1
 returns-4 : tie.Need-returns-4
 unfolding drops replay
 returns-4 c = λ n t R. rw (c .enum-told3 .given .1) R

@@ -5,47 +5,35 @@ use Rattle.settle.proofs.Freeing.{cell-inside}
 use borrow.Author.Needs.{needs}
 use Rattle.settle.proofs.lower_to.Statement.{statement}
 use Rattle.settle.proofs.lower_to.Tie as tie
-use Rattle.settle.proofs.lower_to.Reads as reads
-use Rattle.settle.proofs.lower_to.Lts as lts
 
--- src/lib.rt:87:27
 enum-told : tie.Need-enum-told
 enum-told c = search needs
 
--- src/lib.rt:88:29
 enum-told-2 : tie.Need-enum-told-2
 enum-told-2 c = search needs
 
--- src/lib.rt:89:21
 enum-known-f : tie.Need-enum-known-f
 enum-known-f c = search needs
 
--- src/lib.rt:90:21
 cast-c : tie.Need-cast-c
 cast-c c = let h = cell-inside _ (c .before .f .given .1) (c .before .before .before .pre) in
     record { fits = omega arith }
 
--- src/lib.rt:93:27
 enum-told-3 : tie.Need-enum-told-3
 enum-told-3 c = search needs
 
--- src/lib.rt:82:1
 returns : tie.Need-returns
 returns c = search needs
 
--- src/lib.rt:82:1
 returns-2 : tie.Need-returns-2
 returns-2 c = search needs
 
--- src/lib.rt:82:1
 returns-3 : tie.Need-returns-3
 returns-3 c = rw (c .before .before .f .given .1, lt-ltb _ _ (c .if1 .taken))
 
--- src/lib.rt:82:1
 returns-4 : tie.Need-returns-4
 returns-4 c = rw (c .before .before .f .given .1, le-ltb _ _ (c .if1 .left))
 
--- src/lib.rt:82:1
 returns-5 : tie.Need-returns-5
 returns-5 c = search needs
 

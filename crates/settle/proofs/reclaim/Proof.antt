@@ -1,9 +1,9 @@
 -- `settle::reclaim` meets its contract: the rows are the heap after k turns, and below low ZCT has only cells that are held. Assumes nothing.
 use mathlib.Core.Option.{Option}
 use mathlib.Core.List.{List}
-use mathlib.Core.Path.{_≡_, sym, _∙_}
+use mathlib.Core.Path.{sym, _∙_}
 use native.Mathlib.Omega.{arith}
-use Prim.Native.Nat.{ℕ, _≤_, _<_, _-_, zero-le}
+use Prim.Native.Nat.{ℕ, _≤_, _-_, zero-le}
 use lib.ListN.{length}
 use borrow.Author.Needs.{needs}
 use Rattle.rules.specs.Settle.{Heap}
@@ -12,11 +12,6 @@ use Rattle.cells.specs.Marks.{Marks}
 use Rattle.settle.proofs.Reclaiming.{Going, going-first, going-next, scan, done-early, done-late, heaped, Lengths, lengths}
 use Rattle.settle.proofs.reclaim.Statement.{statement}
 use Rattle.settle.proofs.reclaim.Tie as tie
-use Rattle.settle.proofs.reclaim.Reads as reads
-use Rattle.settle.proofs.reclaim.Lts as lts
-use Rattle.settle.proofs.free_one.Reads as free-one-reads
-use Rattle.settle.proofs.left_at.Reads as left-at-reads
-use Rattle.settle.proofs.unheld.Reads as unheld-reads
 
 abbrev Inv-loop : tie.InvT-loop
 Inv-loop kinds₀ values₀ zct₀ mrt₀ counts₀ work first cap most at₀ k₀ kinds values zct mrt counts at k =
@@ -38,71 +33,58 @@ is l =
     let S = start l .pre in
     lengths (l .loop .inv .1 _ _ (S .heap) (S .rows) (S .marks) .rows)
 
--- src/lib.rt:239:5
 loop-holds : tie.Need-loop-holds Inv-loop μ-loop
 loop-holds c = (zero-le, λ n hs h R M. going-first hs R)
 
--- src/lib.rt:243:13
 unheld-requires : tie.Need-unheld-requires Inv-loop μ-loop
 unheld-requires c κs = let l = c .before .before .before in
     let S = start l .pre in
     scan (l .loop .inv .1 _ _ (S .heap) (S .rows) (S .marks)) (S .marks)
 
--- src/lib.rt:245:13
 left-at-requires : tie.Need-left-at-requires Inv-loop μ-loop
 left-at-requires c κs = search needs
 
--- src/lib.rt:245:13
 same-length : tie.Need-same-length Inv-loop μ-loop
 same-length c = let l = c .before .before .before .before .before .before in
     is l .kinds ∙ sym (was (start l) .kinds)
 
--- src/lib.rt:245:13
 same-length-2 : tie.Need-same-length-2 Inv-loop μ-loop
 same-length-2 c = let l = c .before .before .before .before .before .before in
     is l .values ∙ sym (was (start l) .values)
 
--- src/lib.rt:245:13
 same-length-3 : tie.Need-same-length-3 Inv-loop μ-loop
 same-length-3 c = let l = c .before .before .before .before .before .before in
     is l .zct ∙ sym (was (start l) .zct)
 
--- src/lib.rt:245:13
 same-length-4 : tie.Need-same-length-4 Inv-loop μ-loop
 same-length-4 c = let l = c .before .before .before .before .before .before in
     is l .mrt ∙ sym (was (start l) .mrt)
 
--- src/lib.rt:245:13
 same-length-5 : tie.Need-same-length-5 Inv-loop μ-loop
 same-length-5 c = let l = c .before .before .before .before .before .before in
     is l .counts ∙ sym (was (start l) .counts)
 
--- src/lib.rt:245:13
 returns : tie.Need-returns Inv-loop μ-loop
 returns c = let i = c .before in
     let l = i .before .before .before .before .before .loop .inv in
     λ n hs h R M.
     done-early (l .1 n hs h R M) M (i .before .unheld .ensures) _ (i .if1 .taken) (l .0) (c .left-at .ensures)
 
--- src/lib.rt:247:9
 free-one-requires : tie.Need-free-one-requires Inv-loop μ-loop
 free-one-requires c κs = let i = c .before .before .before .before .before in
     let l = i .before .before .before .before .before in
     let S = start l .pre in
     (heaped (l .loop .inv .1 _ _ (S .heap) (S .rows) (S .marks) .rows), i .if1 .left)
 
--- src/lib.rt:248:9
 add-k : tie.Need-add-k Inv-loop μ-loop
 add-k c = let t = c .before .before .before .before .before .before .before .before .before .before .before .before .before .before .before .before .before .before .before .loop-test .taken in
     let f = c .before .before .before .before .before .before .before .before .before .before .before .before .before .before .before .before .before .before .before .before .before .before .before .before .before .before .fits .most in
     record { fits = omega arith }
 
--- src/lib.rt:239:5
 loop-less : tie.Need-loop-less Inv-loop μ-loop
 loop-less c = let t = c .before .before .before .before .before .before .before .before .before .before .before .before .before .before .before .before .before .before .before .loop-test .taken in
     omega arith
 
--- src/lib.rt:239:5
 loop-again : tie.Need-loop-again Inv-loop μ-loop
 loop-again c = let f = c .before .before .before .before .before .before .before .before .before .free-one in
     let i = c .before .before .before .before .before .before .before .before .before .before .before .before .before .before .before in
@@ -112,36 +94,29 @@ loop-again c = let f = c .before .before .before .before .before .before .before
       λ n hs h R M. let G = l .1 n hs h R M in going-next G M (i .before .unheld .ensures) (i .if1 .left) (f .ensures n _ (G .rows)),
     )
 
--- src/lib.rt:250:5
 left-at-requires-2 : tie.Need-left-at-requires-2 Inv-loop μ-loop
 left-at-requires-2 c κs = search needs
 
--- src/lib.rt:218:1
 same-length-6 : tie.Need-same-length-6 Inv-loop μ-loop
 same-length-6 c = let l = c .before .before in
     is l .kinds ∙ sym (was (start l) .kinds)
 
--- src/lib.rt:218:1
 same-length-7 : tie.Need-same-length-7 Inv-loop μ-loop
 same-length-7 c = let l = c .before .before in
     is l .values ∙ sym (was (start l) .values)
 
--- src/lib.rt:218:1
 same-length-8 : tie.Need-same-length-8 Inv-loop μ-loop
 same-length-8 c = let l = c .before .before in
     is l .zct ∙ sym (was (start l) .zct)
 
--- src/lib.rt:218:1
 same-length-9 : tie.Need-same-length-9 Inv-loop μ-loop
 same-length-9 c = let l = c .before .before in
     is l .mrt ∙ sym (was (start l) .mrt)
 
--- src/lib.rt:218:1
 same-length-10 : tie.Need-same-length-10 Inv-loop μ-loop
 same-length-10 c = let l = c .before .before in
     is l .counts ∙ sym (was (start l) .counts)
 
--- src/lib.rt:218:1
 returns-2 : tie.Need-returns-2 Inv-loop μ-loop
 returns-2 c = let l = c .before .before .loop .inv in
     λ n hs h R M.

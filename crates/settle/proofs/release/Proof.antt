@@ -7,17 +7,11 @@ use Rattle.settle.proofs.Freeing.{inside-as}
 use borrow.Author.Needs.{needs}
 use Rattle.settle.proofs.release.Statement.{statement}
 use Rattle.settle.proofs.release.Tie as tie
-use Rattle.settle.proofs.release.Reads as reads
-use Rattle.settle.proofs.release.Lts as lts
-use Rattle.settle.proofs.let_go.Reads as let-go-reads
-use Rattle.tables.proofs.cut_at.Reads as cut-at-reads
 
--- src/lib.rt:136:9
 cut-at-requires : tie.Need-cut-at-requires
 cut-at-requires c κs = let s = c .before .before .before .before in
     (is-padded (s .pre .0 .ready .are .zct-is), s .pre .1 .0)
 
--- src/lib.rt:138:9
 let-go-requires : tie.Need-let-go-requires
 let-go-requires c κs = let k = c .before .before .before .before .before .cut-at in
     let s = c .before .before .before .before .before .before .before .before .before .before in
@@ -25,7 +19,6 @@ let-go-requires c κs = let k = c .before .before .before .before .before .cut-a
     let R = left (T .bounds .big) (T .ready) (s .pre .1 .0) (k .ensures .0) (k .ensures .1) in
     (tabled R (T .bounds), inside-as (s .args .x) (sym (R .are .zct-is .long)) (s .pre .1 .1 .0))
 
--- src/lib.rt:139:5
 let-go-requires-2 : tie.Need-let-go-requires-2
 let-go-requires-2 c κs = let g = c .before .before .before .before .before .before .before .before .before in
     let k = g .before .before .before .before .before .before .cut-at in
@@ -34,19 +27,15 @@ let-go-requires-2 c κs = let g = c .before .before .before .before .before .bef
     let R = g .let-go .ensures _ _ (left (T .bounds .big) (T .ready) (s .pre .1 .0) (k .ensures .0) (k .ensures .1)) in
     (tabled R (T .bounds), inside-as (s .args .y) (sym (R .are .zct-is .long)) (s .pre .1 .1 .1))
 
--- src/lib.rt:119:1
 same-length : tie.Need-same-length
 same-length c = search needs
 
--- src/lib.rt:119:1
 same-length-2 : tie.Need-same-length-2
 same-length-2 c = search needs
 
--- src/lib.rt:119:1
 same-length-3 : tie.Need-same-length-3
 same-length-3 c = search needs
 
--- src/lib.rt:119:1
 returns : tie.Need-returns
 returns c = let d = c .before .before .before .before .before .before in
     let g = d .before .before .before .before .before .before .before .before .before .before in

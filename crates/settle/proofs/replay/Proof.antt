@@ -9,10 +9,6 @@ use Rattle.tables.proofs.Steps.{tabled}
 use Rattle.settle.proofs.Replaying.{Replaying, replaying-first, replaying-next, replaying-done, entry-small}
 use Rattle.settle.proofs.replay.Statement.{statement}
 use Rattle.settle.proofs.replay.Tie as tie
-use Rattle.settle.proofs.replay.Reads as reads
-use Rattle.settle.proofs.replay.Lts as lts
-use Rattle.cells.proofs.entry_at.Reads as entry-at-reads
-use Rattle.settle.proofs.replay_one.Reads as replay-one-reads
 
 abbrev Inv-loop : tie.InvT-loop
 Inv-loop log len zct₀ mrt₀ counts₀ cap u₀ i₀ zct mrt counts u i =
@@ -21,16 +17,13 @@ Inv-loop log len zct₀ mrt₀ counts₀ cap u₀ i₀ zct mrt counts u i =
 abbrev μ-loop : tie.MeasureT-loop
 μ-loop log len zct₀ mrt₀ counts₀ cap u₀ i₀ zct mrt counts u i = len - i
 
--- src/lib.rt:71:5
 loop-holds : tie.Need-loop-holds Inv-loop μ-loop
 loop-holds c = (zero-le, λ n xs t L R. replaying-first xs R)
 
--- src/lib.rt:72:13
 entry-at-requires : tie.Need-entry-at-requires Inv-loop μ-loop
 entry-at-requires c κs = let L = c .before .before .before .before .before .before .pre .logged in
     omega arith
 
--- src/lib.rt:75:9
 replay-one-requires : tie.Need-replay-one-requires Inv-loop μ-loop
 replay-one-requires c κs = let e = c .before .before .before in
     let l = e .before .before in
@@ -38,17 +31,14 @@ replay-one-requires c κs = let e = c .before .before .before in
     let P = l .loop .inv .1 _ _ _ (S .logged) (S .ready) in
     (tabled (P .ready) (S .bounds), entry-small (P .ready) (S .logged) (e .before .loop-test .taken) (e .entry-at .ensures .address-is))
 
--- src/lib.rt:76:9
 add-i : tie.Need-add-i Inv-loop μ-loop
 add-i c = let t = c .before .before .before .before .before .before .before .before .before .before .before .loop-test .taken in
     omega arith
 
--- src/lib.rt:71:5
 loop-less : tie.Need-loop-less Inv-loop μ-loop
 loop-less c = let t = c .before .before .before .before .before .before .before .before .before .before .before .loop-test .taken in
     omega arith
 
--- src/lib.rt:71:5
 loop-again : tie.Need-loop-again Inv-loop μ-loop
 loop-again c = let r = c .before .before .before .before .before .before in
     let e = r .before .before .before .before in
@@ -58,22 +48,18 @@ loop-again c = let r = c .before .before .before .before .before .before in
       λ n xs s L R. replaying-next _ (l .loop .inv .1 n xs s L R) (e .entry-at .ensures .next n _ xs L t) (r .replay-one .ensures),
     )
 
--- src/lib.rt:57:1
 same-length : tie.Need-same-length Inv-loop μ-loop
 same-length c = let S = c .before .before .before .before .before .before .pre in
     c .before .loop .inv .1 _ _ _ (S .logged) (S .ready) .ready .are .zct-is .long ∙ sym (S .ready .are .zct-is .long)
 
--- src/lib.rt:57:1
 same-length-2 : tie.Need-same-length-2 Inv-loop μ-loop
 same-length-2 c = let S = c .before .before .before .before .before .before .pre in
     c .before .loop .inv .1 _ _ _ (S .logged) (S .ready) .ready .are .mrt-is .long ∙ sym (S .ready .are .mrt-is .long)
 
--- src/lib.rt:57:1
 same-length-3 : tie.Need-same-length-3 Inv-loop μ-loop
 same-length-3 c = let S = c .before .before .before .before .before .before .pre in
     c .before .loop .inv .1 _ _ _ (S .logged) (S .ready) .ready .are .counts-is .long ∙ sym (S .ready .are .counts-is .long)
 
--- src/lib.rt:57:1
 returns : tie.Need-returns Inv-loop μ-loop
 returns c = λ n xs t L R. replaying-done (c .before .loop .inv .1 n xs t L R) L (c .loop-test .left)
 

@@ -4,72 +4,53 @@ use Rattle.settle.proofs.Replaying.{is-allocate, is-create, is-destroy}
 use borrow.Author.Needs.{needs}
 use Rattle.settle.proofs.replay_one.Statement.{statement}
 use Rattle.settle.proofs.replay_one.Tie as tie
-use Rattle.settle.proofs.replay_one.Reads as reads
-use Rattle.settle.proofs.replay_one.Lts as lts
-use Rattle.tables.proofs.allocate.Reads as allocate-reads
-use Rattle.tables.proofs.create.Reads as create-reads
-use Rattle.tables.proofs.destroy.Reads as destroy-reads
 
--- src/lib.rt:46:13
 cast-w : tie.Need-cast-w
 cast-w c = search needs
 
--- src/lib.rt:48:9
 allocate-requires : tie.Need-allocate-requires
 allocate-requires c κs = let s = c .before .before .before .before .before in
     (zct-listed (s .pre .0 .ready), s .pre .1)
 
--- src/lib.rt:48:9
 same-length : tie.Need-same-length
 same-length c = search needs
 
--- src/lib.rt:48:9
 returns : tie.Need-returns
 returns c = let a = c .before .before in
     let t = a .before .before in
     λ n u R.
     rw (is-allocate _ _ (t .if1 .taken)) (a .allocate .ensures n _ _ _ u R)
 
--- src/lib.rt:51:9
 create-requires : tie.Need-create-requires
 create-requires c κs = search needs
 
--- src/lib.rt:51:9
 same-length-2 : tie.Need-same-length-2
 same-length-2 c = search needs
 
--- src/lib.rt:51:9
 same-length-3 : tie.Need-same-length-3
 same-length-3 c = search needs
 
--- src/lib.rt:51:9
 same-length-4 : tie.Need-same-length-4
 same-length-4 c = search needs
 
--- src/lib.rt:51:9
 returns-2 : tie.Need-returns-2
 returns-2 c = let a = c .before .before .before .before .before .before in
     let t = a .before .before .before .before in
     λ n u R.
     rw (is-create _ _ (t .before .if1 .left) (t .if2 .taken)) (a .create .ensures n u R)
 
--- src/lib.rt:53:5
 destroy-requires : tie.Need-destroy-requires
 destroy-requires c κs = search needs
 
--- src/lib.rt:33:1
 same-length-5 : tie.Need-same-length-5
 same-length-5 c = search needs
 
--- src/lib.rt:33:1
 same-length-6 : tie.Need-same-length-6
 same-length-6 c = search needs
 
--- src/lib.rt:33:1
 same-length-7 : tie.Need-same-length-7
 same-length-7 c = search needs
 
--- src/lib.rt:33:1
 returns-3 : tie.Need-returns-3
 returns-3 c = let a = c .before .before .before .before .before .before in
     let t = a .before .before .before .before in

@@ -1,31 +1,20 @@
 -- `settle::settle` meets its contract: replay, clear, mark, reclaim, clear. Assumes nothing.
-use mathlib.Core.Path.{_∙_}
 use Rattle.settle.proofs.Replaying.{replayable}
 use Rattle.settle.proofs.Settling.{replayed-rows, marks-as, reclaimable, settled-as}
 use borrow.Author.Needs.{needs}
 use Rattle.settle.proofs.settle.Statement.{statement}
 use Rattle.settle.proofs.settle.Tie as tie
-use Rattle.settle.proofs.settle.Reads as reads
-use Rattle.settle.proofs.settle.Lts as lts
-use Rattle.cells.proofs.clear.Reads as clear-reads
-use Rattle.cells.proofs.mark_held.Reads as mark-held-reads
-use Rattle.settle.proofs.reclaim.Reads as reclaim-reads
-use Rattle.settle.proofs.replay.Reads as replay-reads
 
--- src/lib.rt:271:9
 replay-requires : tie.Need-replay-requires
 replay-requires c κs = let W = c .before .before .before .before .before .before .before .before .before .before .pre .whole in
     replayable (W .rows .bounds) (W .rows .ready) (W .logged)
 
--- src/lib.rt:272:5
 clear-requires : tie.Need-clear-requires
 clear-requires c κs = search needs
 
--- src/lib.rt:273:5
 mark-held-requires : tie.Need-mark-held-requires
 mark-held-requires c κs = search needs
 
--- src/lib.rt:275:9
 reclaim-requires : tie.Need-reclaim-requires
 reclaim-requires c κs = let k = c .before .before .before .before .before .before .before .before in
     let p = k .before .before .before .before .before .before .before .before .before .before .before .before in
@@ -33,39 +22,30 @@ reclaim-requires c κs = let k = c .before .before .before .before .before .befo
     let W = S .whole in
     reclaimable (replayed-rows (W .rows) (p .replay .ensures _ _ _ (W .logged) (W .rows .ready))) (marks-as (W .work-long) (k .mark-held .ensures (S .holds) (S .counted)))
 
--- src/lib.rt:276:5
 clear-requires-2 : tie.Need-clear-requires-2
 clear-requires-2 c κs = search needs
 
--- src/lib.rt:254:1
 same-length : tie.Need-same-length
 same-length c = search needs
 
--- src/lib.rt:254:1
 same-length-2 : tie.Need-same-length-2
 same-length-2 c = search needs
 
--- src/lib.rt:254:1
 same-length-3 : tie.Need-same-length-3
 same-length-3 c = search needs
 
--- src/lib.rt:254:1
 same-length-4 : tie.Need-same-length-4
 same-length-4 c = search needs
 
--- src/lib.rt:254:1
 same-length-5 : tie.Need-same-length-5
 same-length-5 c = search needs
 
--- src/lib.rt:254:1
 same-length-6 : tie.Need-same-length-6
 same-length-6 c = search needs
 
--- src/lib.rt:254:1
 same-length-7 : tie.Need-same-length-7
 same-length-7 c = search needs
 
--- src/lib.rt:254:1
 returns : tie.Need-returns
 returns c = let z = c .before .before in
     let r = z .before .before .before .before .before .before .before .before .before .before .before in

@@ -4,13 +4,10 @@ use borrow.Author.Count.{below-more}
 use native.Mathlib.Omega.{arith}
 use Prim.Native.Nat.{ℕ, _≤_, _<_, _-_}
 use mathlib.Core.Path.{_≡_}
-use lib.ListN.{length, getD}
+use lib.ListN.{getD}
 use Rattle.settle.proofs.Reclaiming.{scan-from}
 use Rattle.settle.proofs.unheld.Statement.{statement}
 use Rattle.settle.proofs.unheld.Tie as tie
-use Rattle.settle.proofs.unheld.Reads as reads
-use Rattle.settle.proofs.unheld.Lts as lts
-use Rattle.tables.proofs.find.Reads as find-reads
 
 abbrev Inv-loop : tie.InvT-loop
 Inv-loop zct used work low p₀ p = (p ≤ used) × ((i : ℕ) → i < p → getD work (getD zct i 0) 0 ≡ 1)
@@ -18,23 +15,18 @@ Inv-loop zct used work low p₀ p = (p ≤ used) × ((i : ℕ) → i < p → get
 abbrev μ-loop : tie.MeasureT-loop
 μ-loop zct used work low p₀ p = used - p
 
--- src/lib.rt:139:9
 find-requires : tie.Need-find-requires Inv-loop μ-loop
 find-requires c κs = (c .before .before .pre .fits, c .before .before .pre .up)
 
--- src/lib.rt:140:5
 loop-holds : tie.Need-loop-holds Inv-loop μ-loop
 loop-holds c = scan-from (c .before .before .before .pre) (c .find .result) (c .find .ensures)
 
--- src/lib.rt:141:17
 mul-a : tie.Need-mul-a Inv-loop μ-loop
 mul-a c = search needs
 
--- src/lib.rt:141:17
 shared-slice-read-a : tie.Need-shared-slice-read-a Inv-loop μ-loop
 shared-slice-read-a c = search needs
 
--- src/lib.rt:141:17
 cast-a : tie.Need-cast-a Inv-loop μ-loop
 cast-a c =
     let s = c .before .before .before .before .before .before in
@@ -42,7 +34,6 @@ cast-a c =
     let h = s .pre .small (l .p) (c .before .loop-test .taken) in
     record { fits = omega (arith, s .good .1 .1 .0) }
 
--- src/lib.rt:142:12
 mul-if1 : tie.Need-mul-if1 Inv-loop μ-loop
 mul-if1 c =
     let s = c .before .before .before .before .before .before in
@@ -50,7 +41,6 @@ mul-if1 c =
     let h = s .pre .small (l .p) (c .before .loop-test .taken) in
     search needs
 
--- src/lib.rt:142:12
 shared-slice-read-if1 : tie.Need-shared-slice-read-if1 Inv-loop μ-loop
 shared-slice-read-if1 c =
     let s = c .before .before .before .before .before .before .before in
@@ -58,27 +48,22 @@ shared-slice-read-if1 c =
     let h = s .pre .small (l .p) (c .before .before .loop-test .taken) in
     h
 
--- src/lib.rt:143:13
 returns : tie.Need-returns Inv-loop μ-loop
 returns c =
     let l = c .before .before .before .before .loop .inv in
     record { within = l .0; marked = l .1; bare = λ h e. c .if1 .taken e }
 
--- src/lib.rt:145:9
 add-p : tie.Need-add-p Inv-loop μ-loop
 add-p c = search needs
 
--- src/lib.rt:140:5
 loop-less : tie.Need-loop-less Inv-loop μ-loop
 loop-less c = search needs
 
--- src/lib.rt:140:5
 loop-again : tie.Need-loop-again Inv-loop μ-loop
 loop-again c =
     let l = c .before .before .before .before .loop .inv in
     (omega arith, below-more _ _ (l .1) (c .if1 .left))
 
--- src/lib.rt:135:1
 returns-2 : tie.Need-returns-2 Inv-loop μ-loop
 returns-2 c =
     let l = c .before .loop .inv in
