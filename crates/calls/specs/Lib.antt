@@ -1,0 +1,2 @@
+-- the definitions that calls' contracts cite
+pub mod Words
