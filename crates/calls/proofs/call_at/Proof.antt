@@ -1,3 +1,4 @@
+use Rattle.cells.proofs.Signed.{back}
 use borrow.Author.Needs.{needs}
 use Rattle.calls.proofs.call_at.Statement.{statement}
 use Rattle.calls.proofs.call_at.Tie as tie
@@ -55,7 +56,7 @@ call-of-requires c κs = search needs
 
 -- src/lib.rt:123:1
 returns : tie.Need-returns
-returns c = ?
+returns c = rw (back _ (c .before .before .before .before .call-of-arg .given), back _ (c .before .before .before .call-of-arg2 .given), back _ (c .before .before .call-of-arg3 .given), back _ (c .before .call-of-arg4 .given)) at (c .call-of .ensures)
 
 pub call-at-spec : {M : Type 1} → statement M
 call-at-spec =
