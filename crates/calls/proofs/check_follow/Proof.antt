@@ -1,0 +1,54 @@
+use mathlib.Core.Path.{_∙_, ap}
+use mathlib.Core.Bool.{Bool}
+use Rattle.rules.specs.declared.Field.{Field}
+use Rattle.rules.specs.Call.{orElse, want, var, isCell}
+use Rattle.calls.proofs.Words.{ap-two}
+use borrow.Author.Needs.{needs}
+use Rattle.calls.proofs.check_follow.Statement.{statement}
+use Rattle.calls.proofs.check_follow.Tie as tie
+use Rattle.calls.proofs.check_follow.Reads as reads
+use Rattle.calls.proofs.check_follow.Lts as lts
+use Rattle.calls.proofs.check_one.Reads as check-one-reads
+use Rattle.calls.proofs.field_of.Reads as field-of-reads
+use Rattle.calls.proofs.is_cell.Reads as is-cell-reads
+use Rattle.calls.proofs.or_else.Reads as or-else-reads
+use Rattle.calls.proofs.want.Reads as want-reads
+
+-- src/lib.rt:276:9
+field-of-requires : tie.Need-field-of-requires
+field-of-requires c κs = search needs
+
+-- src/lib.rt:277:13
+check-one-requires : tie.Need-check-one-requires
+check-one-requires c κs = search needs
+
+-- src/lib.rt:277:46
+is-cell-requires : tie.Need-is-cell-requires
+is-cell-requires c κs = search needs
+
+-- src/lib.rt:277:41
+want-requires : tie.Need-want-requires
+want-requires c κs = search needs
+
+-- src/lib.rt:277:5
+or-else-requires : tie.Need-or-else-requires
+or-else-requires c κs = search needs
+
+-- src/lib.rt:265:1
+returns : tie.Need-returns
+unfolding var
+returns c =
+    λ s S.
+    c .or-else .ensures
+    ∙ ap-two orElse (c .before .before .before .check-one .ensures _ (S .held)) (c .before .want .ensures ∙ ap (λ (b : Bool). want b 12) (c .before .before .is-cell .ensures ∙ ap isCell (c .before .before .before .before .field-of .ensures s S)))
+
+pub check-follow-spec : {M : Type 1} → statement M
+check-follow-spec =
+    tie.close
+    (tie.spec
+    field-of-requires
+    check-one-requires
+    is-cell-requires
+    want-requires
+    or-else-requires
+    returns)

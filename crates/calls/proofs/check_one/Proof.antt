@@ -1,0 +1,25 @@
+use mathlib.Core.Path.{_∙_, ap}
+use mathlib.Core.Bool.{Bool}
+use Rattle.rules.specs.Call.{want}
+use borrow.Author.Needs.{needs}
+use Rattle.calls.proofs.check_one.Statement.{statement}
+use Rattle.calls.proofs.check_one.Tie as tie
+use Rattle.calls.proofs.check_one.Reads as reads
+use Rattle.calls.proofs.check_one.Lts as lts
+use Rattle.calls.proofs.is_held.Reads as is-held-reads
+use Rattle.calls.proofs.want.Reads as want-reads
+
+-- src/lib.rt:253:10
+is-held-requires : tie.Need-is-held-requires
+is-held-requires c κs = search needs
+
+-- src/lib.rt:253:5
+want-requires : tie.Need-want-requires
+want-requires c κs = search needs
+
+-- src/lib.rt:249:1
+returns : tie.Need-returns
+returns c = λ hs H. c .want .ensures ∙ ap (λ (b : Bool). want b 11) (c .before .is-held .ensures hs H)
+
+pub check-one-spec : {M : Type 1} → statement M
+check-one-spec = tie.close (tie.spec is-held-requires want-requires returns)

@@ -1,0 +1,54 @@
+use mathlib.Core.Path.{_∙_, ap}
+use mathlib.Core.Bool.{Bool}
+use Rattle.rules.specs.declared.Field.{Field}
+use Rattle.rules.specs.Call.{orElse, want, var, isFigure}
+use Rattle.calls.proofs.Words.{ap-two}
+use borrow.Author.Needs.{needs}
+use Rattle.calls.proofs.check_read.Statement.{statement}
+use Rattle.calls.proofs.check_read.Tie as tie
+use Rattle.calls.proofs.check_read.Reads as reads
+use Rattle.calls.proofs.check_read.Lts as lts
+use Rattle.calls.proofs.check_one.Reads as check-one-reads
+use Rattle.calls.proofs.field_of.Reads as field-of-reads
+use Rattle.calls.proofs.is_figure.Reads as is-figure-reads
+use Rattle.calls.proofs.or_else.Reads as or-else-reads
+use Rattle.calls.proofs.want.Reads as want-reads
+
+-- src/lib.rt:292:9
+field-of-requires : tie.Need-field-of-requires
+field-of-requires c κs = search needs
+
+-- src/lib.rt:293:13
+check-one-requires : tie.Need-check-one-requires
+check-one-requires c κs = search needs
+
+-- src/lib.rt:293:46
+is-figure-requires : tie.Need-is-figure-requires
+is-figure-requires c κs = search needs
+
+-- src/lib.rt:293:41
+want-requires : tie.Need-want-requires
+want-requires c κs = search needs
+
+-- src/lib.rt:293:5
+or-else-requires : tie.Need-or-else-requires
+or-else-requires c κs = search needs
+
+-- src/lib.rt:281:1
+returns : tie.Need-returns
+unfolding var
+returns c =
+    λ s S.
+    c .or-else .ensures
+    ∙ ap-two orElse (c .before .before .before .check-one .ensures _ (S .held)) (c .before .want .ensures ∙ ap (λ (b : Bool). want b 13) (c .before .before .is-figure .ensures ∙ ap isFigure (c .before .before .before .before .field-of .ensures s S)))
+
+pub check-read-spec : {M : Type 1} → statement M
+check-read-spec =
+    tie.close
+    (tie.spec
+    field-of-requires
+    check-one-requires
+    is-figure-requires
+    want-requires
+    or-else-requires
+    returns)

@@ -1,0 +1,18 @@
+use Rattle.calls.proofs.Seeing.{held-test}
+use borrow.Author.Needs.{needs}
+use Rattle.calls.proofs.is_held.Statement.{statement}
+use Rattle.calls.proofs.is_held.Tie as tie
+use Rattle.calls.proofs.is_held.Reads as reads
+use Rattle.calls.proofs.is_held.Lts as lts
+use Rattle.cells.proofs.held.Reads as held-reads
+
+-- src/lib.rt:188:5
+held-requires : tie.Need-held-requires
+held-requires c κs = search needs
+
+-- src/lib.rt:184:1
+returns : tie.Need-returns
+returns c = λ hs H. held-test H _ (c .before .pre) (c .held .ensures)
+
+pub is-held-spec : {M : Type 1} → statement M
+is-held-spec = tie.close (tie.spec held-requires returns)

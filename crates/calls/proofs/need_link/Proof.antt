@@ -1,0 +1,44 @@
+use mathlib.Core.Path.{_≡_, _∙_, ap}
+use native.Mathlib.Omega.{arith}
+use lib.ListN.{length, length-append}
+use Rattle.rules.specs.declared.Field.{Field}
+use Rattle.rules.specs.Settle.{drops}
+use Rattle.rules.specs.Call.{var, at, makes}
+use borrow.Author.Needs.{needs}
+use Rattle.calls.proofs.need_link.Statement.{statement}
+use Rattle.calls.proofs.need_link.Tie as tie
+use Rattle.calls.proofs.need_link.Reads as reads
+use Rattle.calls.proofs.need_link.Lts as lts
+use Rattle.calls.proofs.drop_count.Reads as drop-count-reads
+use Rattle.calls.proofs.field_of.Reads as field-of-reads
+use Rattle.calls.proofs.make_count.Reads as make-count-reads
+
+-- src/lib.rt:351:9
+field-of-requires : tie.Need-field-of-requires
+field-of-requires c κs = search needs
+
+-- src/lib.rt:352:5
+drop-count-requires : tie.Need-drop-count-requires
+drop-count-requires c κs = search needs
+
+-- src/lib.rt:352:23
+make-count-requires : tie.Need-make-count-requires
+make-count-requires c κs = search needs
+
+-- src/lib.rt:352:5
+add-result : tie.Need-add-result
+add-result c = search needs
+
+-- src/lib.rt:339:1
+returns : tie.Need-returns
+unfolding var
+returns c =
+    λ s S.
+    let d = c .before .drop-count .ensures .0 ∙ ap (λ (x : Field). length (drops x)) (c .before .before .field-of .ensures s S) in
+    let m = c .make-count .ensures .1 _ (S .held) in
+    rw length-append (omega arith)
+
+pub need-link-spec : {M : Type 1} → statement M
+need-link-spec =
+    tie.close
+    (tie.spec field-of-requires drop-count-requires make-count-requires add-result returns)

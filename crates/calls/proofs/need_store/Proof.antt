@@ -1,0 +1,26 @@
+use mathlib.Core.Path.{_∙_, ap}
+use lib.ListN.{length}
+use Rattle.rules.specs.declared.Field.{Field}
+use Rattle.rules.specs.Settle.{drops}
+use borrow.Author.Needs.{needs}
+use Rattle.calls.proofs.need_store.Statement.{statement}
+use Rattle.calls.proofs.need_store.Tie as tie
+use Rattle.calls.proofs.need_store.Reads as reads
+use Rattle.calls.proofs.need_store.Lts as lts
+use Rattle.calls.proofs.drop_count.Reads as drop-count-reads
+use Rattle.calls.proofs.field_of.Reads as field-of-reads
+
+-- src/lib.rt:367:16
+field-of-requires : tie.Need-field-of-requires
+field-of-requires c κs = search needs
+
+-- src/lib.rt:367:5
+drop-count-requires : tie.Need-drop-count-requires
+drop-count-requires c κs = search needs
+
+-- src/lib.rt:356:1
+returns : tie.Need-returns
+returns c = λ s S. c .drop-count .ensures .0 ∙ ap (λ (x : Field). length (drops x)) (c .before .field-of .ensures s S)
+
+pub need-store-spec : {M : Type 1} → statement M
+need-store-spec = tie.close (tie.spec field-of-requires drop-count-requires returns)

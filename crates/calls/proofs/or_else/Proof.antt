@@ -1,0 +1,16 @@
+use Rattle.calls.proofs.Seeing.{else-zero, else-more}
+use Rattle.calls.proofs.or_else.Statement.{statement}
+use Rattle.calls.proofs.or_else.Tie as tie
+use Rattle.calls.proofs.or_else.Reads as reads
+use Rattle.calls.proofs.or_else.Lts as lts
+
+-- src/lib.rt:242:1
+returns : tie.Need-returns
+returns c = else-zero _ _ (c .if1 .taken)
+
+-- src/lib.rt:242:1
+returns-2 : tie.Need-returns-2
+returns-2 c = else-more _ _ (c .if1 .left)
+
+pub or-else-spec : {M : Type 1} → statement M
+or-else-spec = tie.close (tie.spec returns returns-2)

@@ -1,0 +1,395 @@
+// The ten calls on rows, without the settle before them: a call from its words, what refuses it, what it needs, what it does.
+ghost use mathlib.Core.Path.{_≡_};
+ghost use mathlib.Core.Bool.{Bool, true, _&&_};
+ghost use mathlib.Core.List.{List, _++_};
+ghost use mathlib.Core.Option.{Option, none};
+ghost use Prim.Native.Nat.{ℕ, _+_, _*_, _-_, _<_, _≤_};
+ghost use lib.ListN.{length, getD};
+ghost use lib.IntN.{ℤ, pos};
+ghost use Rattle.rules.specs.Settle.{Shape, drops};
+ghost use Rattle.rules.specs.Call.{callOf, given, isBelow, isNought, var, at, isHeld, isCell, isFigure, want, orElse, check, makes};
+ghost use Rattle.calls.specs.Words.{decodedAs, isSome, callAt, Decides};
+ghost use Rattle.calls.specs.Seen.{Held, Shown, Reach, Reaches, needs};
+use cells::address;
+use cells::field_at;
+use cells::held;
+use rules::Call;
+use rules::Field;
+
+// What four words are: a call, or none.
+pub enum Decoded {
+    Is(Call),
+    Bad,
+}
+
+// Is the word a variable of m, or a field of 2?
+pub fn is_below(x: i32, m: usize) -> bool
+    ensures { λ r. ⌜ r ≡ isBelow m x ⌝ }
+{
+    if x < 0 {
+        return false;
+    }
+    (x as usize) < m
+}
+
+// Is the word 0, as one that a call does not name?
+pub fn is_nought(x: i32) -> bool
+    ensures { λ r. ⌜ r ≡ isNought x ⌝ }
+{
+    is_below(x, 1)
+}
+
+// Are all three words right?
+pub fn all(p: bool, q: bool, r: bool) -> bool
+    ensures { λ s. ⌜ s ≡ (p && q && r) ⌝ }
+{
+    if p {
+        if q {
+            return r;
+        }
+        return false;
+    }
+    false
+}
+
+// The call, where its words are right.
+pub fn given(right: bool, call: Call) -> Decoded
+    ensures { λ r. ⌜ decodedAs r ≡ given right call ⌝ }
+{
+    if right {
+        Decoded::Is(call)
+    } else {
+        Decoded::Bad
+    }
+}
+
+// A variable and two unused words.
+pub fn one_variable(a: i32, b: i32, c: i32, m: usize) -> bool
+    ensures { λ r. ⌜ r ≡ (isBelow m a && isNought b && isNought c) ⌝ }
+{
+    all(is_below(a, m), is_nought(b), is_nought(c))
+}
+
+// Two variables and an unused word.
+pub fn two_variables(a: i32, b: i32, c: i32, m: usize) -> bool
+    ensures { λ r. ⌜ r ≡ (isBelow m a && isBelow m b && isNought c) ⌝ }
+{
+    all(is_below(a, m), is_below(b, m), is_nought(c))
+}
+
+// A variable, a field and a variable.
+pub fn field_and_variable(a: i32, b: i32, c: i32, m: usize) -> bool
+    ensures { λ r. ⌜ r ≡ (isBelow m a && isBelow 2 b && isBelow m c) ⌝ }
+{
+    all(is_below(a, m), is_below(b, 2), is_below(c, m))
+}
+
+// A variable, a field and any figure.
+pub fn field_and_figure(a: i32, b: i32, m: usize) -> bool
+    ensures { λ r. ⌜ r ≡ (isBelow m a && isBelow 2 b && true) ⌝ }
+{
+    all(is_below(a, m), is_below(b, 2), true)
+}
+
+// A variable, a field and an unused word.
+pub fn one_field(a: i32, b: i32, c: i32, m: usize) -> bool
+    ensures { λ r. ⌜ r ≡ (isBelow m a && isBelow 2 b && isNought c) ⌝ }
+{
+    all(is_below(a, m), is_below(b, 2), is_nought(c))
+}
+
+// Three unused words.
+pub fn no_words(a: i32, b: i32, c: i32) -> bool
+    ensures { λ r. ⌜ r ≡ (isNought a && isNought b && isNought c) ⌝ }
+{
+    all(is_nought(a), is_nought(b), is_nought(c))
+}
+
+// The call that four words are, over m variables: the operation number picks it and the words it takes.
+pub fn call_of(op: i32, a: i32, b: i32, c: i32, m: usize) -> Decoded
+    ensures { λ r. ⌜ decodedAs r ≡ callOf m op a b c ⌝ }
+{
+    match op {
+        -2147483648..=0 | 11..=2147483647 => Decoded::Bad,
+        1 => given(one_variable(a, b, c, m), Call::New(address(a))),
+        2 => given(
+            two_variables(a, b, c, m),
+            Call::Copy(address(a), address(b)),
+        ),
+        3 => given(one_variable(a, b, c, m), Call::Clear(address(a))),
+        4 => given(
+            field_and_variable(a, b, c, m),
+            Call::Link(address(a), address(b), address(c)),
+        ),
+        5 => given(
+            field_and_figure(a, b, m),
+            Call::Put(address(a), address(b), c),
+        ),
+        6 => given(one_field(a, b, c, m), Call::Blank(address(a), address(b))),
+        7 => given(
+            field_and_variable(a, b, c, m),
+            Call::Follow(address(a), address(b), address(c)),
+        ),
+        8 => given(one_field(a, b, c, m), Call::Read(address(a), address(b))),
+        9 => given(
+            two_variables(a, b, c, m),
+            Call::Same(address(a), address(b)),
+        ),
+        10 => given(no_words(a, b, c), Call::Settle),
+    }
+}
+
+// The call that the four words from place i on are.
+pub fn call_at(calls: &[i32], i: usize, m: usize) -> Decoded
+    requires { ⌜ i + 4 ≤ length (now calls) ⌝ }
+    ensures { λ r. ⌜ decodedAs r ≡ callAt m (now (calls .entry)) i ⌝ }
+{
+    call_of(calls[i], calls[i + 1], calls[i + 2], calls[i + 3], m)
+}
+
+// Was a call found?
+pub fn is_call(d: Decoded) -> bool
+    ensures { λ r. ⌜ r ≡ isSome (decodedAs d) ⌝ }
+{
+    match d {
+        Decoded::Is(_) => true,
+        Decoded::Bad => false,
+    }
+}
+
+// Are the words calls as they should be: at most 1,024, a multiple of 4, and each four of them a call?
+pub fn calls_right(calls: &[i32], m: usize) -> bool
+    ensures { λ r. ⌜ Decides r m (now (calls .entry)) ⌝ }
+{
+    if 1024 < calls.len() {
+        return false;
+    }
+    let mut i = 0;
+    while i < calls.len() {
+        if calls.len() - i < 4 {
+            return false;
+        }
+        if is_call(call_at(calls, i, m)) {
+            i += 4;
+            continue;
+        }
+        return false;
+    }
+    true
+}
+
+// ---- what a call finds
+
+// Does variable v hold a cell?
+pub fn is_held(variables: &[i32], v: usize, n: usize) -> bool
+    requires { ⌜ v < length (now variables) ⌝ }
+    ensures { λ r. ⌜ ((hs : List (Option ℕ)) → Held n (now (variables .entry)) hs → r ≡ isHeld (getD hs v none)) ⌝ }
+{
+    held(variables, v, n) < n
+}
+
+// Field f of v's cell, nothing where v holds nothing.
+pub fn field_of(
+    kinds: &[u8],
+    values: &[i32],
+    variables: &[i32],
+    n: usize,
+    v: usize,
+    f: usize,
+) -> Field
+    requires { ⌜ Reach n (now kinds) (now values) (now variables) v f ⌝ }
+    ensures { λ r. ⌜ ((s : Shape) → Shown n (now (kinds .entry)) (now (values .entry)) (now (variables .entry)) s → r ≡ at s v f) ⌝ }
+{
+    let a = held(variables, v, n);
+    if a < n {
+        return field_at(kinds, values, 2 * a + f);
+    }
+    Field::Nothing
+}
+
+pub fn is_cell(f: Field) -> bool
+    ensures { λ r. ⌜ r ≡ isCell f ⌝ }
+{
+    match f {
+        Field::Nothing => false,
+        Field::Figure(_) => false,
+        Field::Cell(_) => true,
+        Field::Free(_) => false,
+    }
+}
+
+pub fn is_figure(f: Field) -> bool
+    ensures { λ r. ⌜ r ≡ isFigure f ⌝ }
+{
+    match f {
+        Field::Nothing => false,
+        Field::Figure(_) => true,
+        Field::Cell(_) => false,
+        Field::Free(_) => false,
+    }
+}
+
+// ---- what refuses it
+
+// 0, or the number that says no.
+pub fn want(b: bool, k: usize) -> usize
+    ensures { λ r. ⌜ r ≡ want b k ⌝ }
+{
+    if b { 0 } else { k }
+}
+
+// The first that is not 0.
+pub fn or_else(j: usize, k: usize) -> usize
+    ensures { λ r. ⌜ r ≡ orElse j k ⌝ }
+{
+    if j == 0 { k } else { j }
+}
+
+// 11 where v holds nothing.
+pub fn check_one(variables: &[i32], v: usize, n: usize) -> usize
+    requires { ⌜ v < length (now variables) ⌝ }
+    ensures { λ r. ⌜ ((hs : List (Option ℕ)) → Held n (now (variables .entry)) hs → r ≡ want (isHeld (getD hs v none)) 11) ⌝ }
+{
+    want(is_held(variables, v, n), 11)
+}
+
+// 11 where v or w holds nothing.
+pub fn check_two(variables: &[i32], v: usize, w: usize, n: usize) -> usize
+    requires { ⌜ (v < length (now variables)) × (w < length (now variables)) ⌝ }
+    ensures { λ r. ⌜ ((hs : List (Option ℕ)) → Held n (now (variables .entry)) hs → r ≡ want (isHeld (getD hs v none) && isHeld (getD hs w none)) 11) ⌝ }
+{
+    or_else(check_one(variables, v, n), check_one(variables, w, n))
+}
+
+// 11 where v holds nothing, 12 where its field f is no cell.
+pub fn check_follow(
+    kinds: &[u8],
+    values: &[i32],
+    variables: &[i32],
+    n: usize,
+    v: usize,
+    f: usize,
+) -> usize
+    requires { ⌜ Reach n (now kinds) (now values) (now variables) v f ⌝ }
+    ensures { λ r. ⌜ ((s : Shape) → Shown n (now (kinds .entry)) (now (values .entry)) (now (variables .entry)) s → r ≡ orElse (want (isHeld (var s v)) 11) (want (isCell (at s v f)) 12)) ⌝ }
+{
+    let old = field_of(kinds, values, variables, n, v, f);
+    or_else(check_one(variables, v, n), want(is_cell(old), 12))
+}
+
+// 11 where v holds nothing, 13 where its field f is no figure.
+pub fn check_read(
+    kinds: &[u8],
+    values: &[i32],
+    variables: &[i32],
+    n: usize,
+    v: usize,
+    f: usize,
+) -> usize
+    requires { ⌜ Reach n (now kinds) (now values) (now variables) v f ⌝ }
+    ensures { λ r. ⌜ ((s : Shape) → Shown n (now (kinds .entry)) (now (values .entry)) (now (variables .entry)) s → r ≡ orElse (want (isHeld (var s v)) 11) (want (isFigure (at s v f)) 13)) ⌝ }
+{
+    let old = field_of(kinds, values, variables, n, v, f);
+    or_else(check_one(variables, v, n), want(is_figure(old), 13))
+}
+
+// 0, or the number that says no to a call: 11, 12 or 13.
+pub fn check(call: Call, kinds: &[u8], values: &[i32], variables: &[i32], n: usize) -> usize
+    requires { ⌜ Reaches n (now kinds) (now values) (now variables) call ⌝ }
+    ensures { λ r. ⌜ ((s : Shape) → Shown n (now (kinds .entry)) (now (values .entry)) (now (variables .entry)) s → r ≡ check call s) ⌝ }
+{
+    match call {
+        Call::New(_) => 0,
+        Call::Copy(_, _) => 0,
+        Call::Clear(_) => 0,
+        Call::Link(v, _, w) => check_two(variables, v, w, n),
+        Call::Put(v, _, _) => check_one(variables, v, n),
+        Call::Blank(v, _) => check_one(variables, v, n),
+        Call::Follow(v, f, _) => check_follow(kinds, values, variables, n, v, f),
+        Call::Read(v, f) => check_read(kinds, values, variables, n, v, f),
+        Call::Same(v, w) => check_two(variables, v, w, n),
+        Call::Settle => 0,
+    }
+}
+
+// ---- what it logs
+
+// How many entries a field's old target takes.
+pub fn drop_count(f: Field) -> usize
+    ensures { λ r. ⌜ (r ≡ length (drops f)) × (r ≤ 1) ⌝ }
+{
+    match f {
+        Field::Nothing => 0,
+        Field::Figure(_) => 0,
+        Field::Cell(_) => 1,
+        Field::Free(_) => 0,
+    }
+}
+
+// How many entries a new target takes.
+pub fn make_count(variables: &[i32], w: usize, n: usize) -> usize
+    requires { ⌜ w < length (now variables) ⌝ }
+    ensures small { λ r. ⌜ r ≤ 1 ⌝ }
+    ensures count { λ r. ⌜ ((hs : List (Option ℕ)) → Held n (now (variables .entry)) hs → r ≡ length (makes (getD hs w none))) ⌝ }
+{
+    if is_held(variables, w, n) { 1 } else { 0 }
+}
+
+// How many entries link logs.
+pub fn need_link(
+    kinds: &[u8],
+    values: &[i32],
+    variables: &[i32],
+    n: usize,
+    v: usize,
+    f: usize,
+    w: usize,
+) -> usize
+    requires { ⌜ Reach n (now kinds) (now values) (now variables) v f × (w < length (now variables)) ⌝ }
+    ensures { λ r. ⌜ ((s : Shape) → Shown n (now (kinds .entry)) (now (values .entry)) (now (variables .entry)) s → r ≡ length (drops (at s v f) ++ makes (var s w))) ⌝ }
+{
+    let old = field_of(kinds, values, variables, n, v, f);
+    drop_count(old) + make_count(variables, w, n)
+}
+
+// How many entries put and blank log.
+pub fn need_store(
+    kinds: &[u8],
+    values: &[i32],
+    variables: &[i32],
+    n: usize,
+    v: usize,
+    f: usize,
+) -> usize
+    requires { ⌜ Reach n (now kinds) (now values) (now variables) v f ⌝ }
+    ensures { λ r. ⌜ ((s : Shape) → Shown n (now (kinds .entry)) (now (values .entry)) (now (variables .entry)) s → r ≡ length (drops (at s v f))) ⌝ }
+{
+    drop_count(field_of(kinds, values, variables, n, v, f))
+}
+
+// How many entries a call will log.
+pub fn need(call: Call, kinds: &[u8], values: &[i32], variables: &[i32], n: usize) -> usize
+    requires { ⌜ Reaches n (now kinds) (now values) (now variables) call ⌝ }
+    ensures { λ r. ⌜ ((s : Shape) → Shown n (now (kinds .entry)) (now (values .entry)) (now (variables .entry)) s → r ≡ needs call s) ⌝ }
+{
+    match call {
+        Call::New(_) => 1,
+        Call::Copy(_, _) => 0,
+        Call::Clear(_) => 0,
+        Call::Link(v, f, w) => need_link(kinds, values, variables, n, v, f, w),
+        Call::Put(v, f, _) => need_store(kinds, values, variables, n, v, f),
+        Call::Blank(v, f) => need_store(kinds, values, variables, n, v, f),
+        Call::Follow(_, _, _) => 0,
+        Call::Read(_, _) => 0,
+        Call::Same(_, _) => 0,
+        Call::Settle => 0,
+    }
+}
+
+// What a call leaves: the log's length, the first free address, its status and value.
+pub struct Acted {
+    pub len: usize,
+    pub first: usize,
+    pub status: usize,
+    pub value: i32,
+}
