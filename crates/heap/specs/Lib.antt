@@ -1,0 +1,2 @@
+-- what heap's contracts cite beside rules
+pub mod Working

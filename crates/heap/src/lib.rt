@@ -1,0 +1,238 @@
+// The entry points: fresh, audit, batch; and a batch's calls, worked one after the other.
+ghost use mathlib.Core.Path.{_≡_};
+ghost use mathlib.Core.Bool.{Bool};
+ghost use mathlib.Core.List.{List};
+ghost use mathlib.Core.Option.{some};
+ghost use Prim.Native.Nat.{ℕ, _+_, _*_, _≤_, _<_};
+ghost use lib.ListN.{length};
+ghost use lib.IntN.{ℤ, pos};
+ghost use Rattle.rules.specs.declared.Head.{Head};
+ghost use Rattle.rules.specs.declared.Call.{Call};
+ghost use Rattle.rules.specs.Head.{Sizes, sizesOf};
+ghost use Rattle.rules.specs.Settle.{Heap};
+ghost use Rattle.rules.specs.Call.{callsIn};
+ghost use Rattle.rules.specs.Step as rules_step;
+ghost use Rattle.rules.specs.Rows.{lent};
+ghost use Rattle.rules.specs.Refusals.{leaves, leavesWith, freshOf, auditOf, batchOf};
+ghost use Rattle.calls.specs.Seen.{needs};
+ghost use Rattle.heap.specs.Working.{wants, valued, Standing, Workable, Answered};
+use calls::Acted;
+use calls::act;
+use calls::check;
+use calls::need;
+use rules::Call;
+use rules::Head;
+use rules::Used;
+use settle::Room;
+use settle::settle_if;
+
+// Where a batch stands: the log's length, the first free address, the used lengths, the cells freed so far.
+pub struct State {
+    pub len: usize,
+    pub first: usize,
+    pub used: Used,
+    pub freed: usize,
+}
+
+// A call's answer, and where the batch stands after it.
+pub struct Worked {
+    pub state: State,
+    pub status: usize,
+    pub value: i32,
+}
+
+// Is a settle made before the call, which needs so many entries?
+pub fn settles_first(
+    call: Call,
+    need: usize,
+    n: usize,
+    l: usize,
+    len: usize,
+    first: usize,
+) -> bool
+    requires { ⌜ (need ≤ 2) × (len ≤ 1024) ⌝ }
+    ensures { λ r. ⌜ ((s : Sizes) (h : Heap) → s .n ≡ n → s .l ≡ l → len ≡ length (h .log) → first ≡ h .first → need ≡ needs call (h .shape) → r ≡ wants s call h) ⌝ }
+{
+    let full = l < len + need;
+    match call {
+        Call::New(_) => {
+            if full {
+                return true;
+            }
+            first == n
+        }
+        Call::Copy(_, _) => full,
+        Call::Clear(_) => full,
+        Call::Link(_, _, _) => full,
+        Call::Put(_, _, _) => full,
+        Call::Blank(_, _) => full,
+        Call::Follow(_, _, _) => full,
+        Call::Read(_, _) => full,
+        Call::Same(_, _) => full,
+        Call::Settle => true,
+    }
+}
+
+// A call's value: a settle call's is the number of cells that its settle freed.
+pub fn value_of(call: Call, freed: usize, value: i32) -> i32
+    requires { ⌜ freed ≤ 1024 ⌝ }
+    ensures { λ r. ⌜ ((status : ℕ) → r ≡ valued call freed (record { status = status; value = value }) .value) ⌝ }
+{
+    match call {
+        Call::New(_) => value,
+        Call::Copy(_, _) => value,
+        Call::Clear(_) => value,
+        Call::Link(_, _, _) => value,
+        Call::Put(_, _, _) => value,
+        Call::Blank(_, _) => value,
+        Call::Follow(_, _, _) => value,
+        Call::Read(_, _) => value,
+        Call::Same(_, _) => value,
+        Call::Settle => freed as i32,
+    }
+}
+
+// What a call leaves: from its settle and from what it did.
+pub fn left(call: Call, room: Room, acted: Acted, freed: usize) -> Worked
+    requires { ⌜ (room .freed ≤ 1024) × (freed ≤ 1000000) ⌝ }
+{
+    let now = room.freed;
+    let value = value_of(call, now, acted.value);
+    let used = room.used;
+    let state = State {
+        len: acted.len,
+        first: acted.first,
+        used: used,
+        freed: freed + now,
+    };
+    Worked {
+        state: state,
+        status: acted.status,
+        value: value,
+    }
+}
+
+// A call is worked: refused with 11 to 13, or settled first where it wants that, and then done.
+pub fn step(
+    call: Call,
+    kinds: &mut [u8],
+    values: &mut [i32],
+    variables: &mut [i32],
+    zct: &mut [u32],
+    mrt: &mut [u32],
+    counts: &mut [u32],
+    log: &mut [u32],
+    work: &mut [u32],
+    head: Head,
+    at: State,
+) -> Worked
+    requires { ⌜ Workable (sizesOf head) (now kinds) (now values) (now variables) (now zct) (now mrt) (now counts) (now log) (now work) at call ⌝ }
+    ensures small { λ r. ⌜ r .state .freed ≤ at .freed + 1024 ⌝ }
+    ensures { λ r. ⌜ ((h : Heap) → Standing (sizesOf head) (now (kinds .entry)) (now (values .entry)) (now (variables .entry)) (now (zct .entry)) (now (mrt .entry)) (now (counts .entry)) (now (log .entry)) (now (work .entry)) at h → Answered (sizesOf head) (now (kinds .exit)) (now (values .exit)) (now (variables .exit)) (now (zct .exit)) (now (mrt .exit)) (now (counts .exit)) (now (log .exit)) (now (work .exit)) r (rules_step.step (sizesOf head) call h)) ⌝ }
+{
+    let n = head.n;
+    let no = check(call, kinds, values, variables, n);
+    if no != 0 {
+        return Worked {
+            state: at,
+            status: no,
+            value: 0,
+        };
+    }
+    let len = at.len;
+    let first = at.first;
+    let used = at.used;
+    let freed = at.freed;
+    let k = need(call, kinds, values, variables, n);
+    let make = settles_first(call, k, n, head.l, len, first);
+    let cap = head.cap as u32;
+    let room = settle_if(
+        make,
+        kinds,
+        values,
+        variables,
+        zct,
+        mrt,
+        counts,
+        log,
+        work,
+        len,
+        first,
+        used,
+        cap,
+    );
+    let acted = act(
+        call,
+        kinds,
+        values,
+        variables,
+        log,
+        n,
+        room.len,
+        room.first,
+    );
+    left(call, room, acted, freed)
+}
+
+// The call that stands at the start of these words is worked. (A batch's words were found right before.)
+pub fn work_call(
+    words: &[i32],
+    kinds: &mut [u8],
+    values: &mut [i32],
+    variables: &mut [i32],
+    zct: &mut [u32],
+    mrt: &mut [u32],
+    counts: &mut [u32],
+    log: &mut [u32],
+    work: &mut [u32],
+    head: Head,
+    at: State,
+) -> Worked
+    requires { ⌜ Callable (sizesOf head) (now words) (now kinds) (now values) (now variables) (now zct) (now mrt) (now counts) (now log) (now work) at ⌝ }
+    ensures small { λ r. ⌜ r .state .freed ≤ at .freed + 1024 ⌝ }
+    ensures { λ r. ⌜ ((c : Call) (h : Heap) → callAt (head .m) (now (words .entry)) 0 ≡ some c → Standing (sizesOf head) (now (kinds .entry)) (now (values .entry)) (now (variables .entry)) (now (zct .entry)) (now (mrt .entry)) (now (counts .entry)) (now (log .entry)) (now (work .entry)) at h → Answered (sizesOf head) (now (kinds .exit)) (now (values .exit)) (now (variables .exit)) (now (zct .exit)) (now (mrt .exit)) (now (counts .exit)) (now (log .exit)) (now (work .exit)) r (rules_step.step (sizesOf head) c h)) ⌝ }
+{
+    let m = head.m;
+    let found = call_at(words, 0, m);
+    match found {
+        Decoded::Is(call) => step(
+            call, kinds, values, variables, zct, mrt, counts, log, work, head, at,
+        ),
+        Decoded::Bad => Worked {
+            state: at,
+            status: 0,
+            value: 0,
+        },
+    }
+}
+
+// The calls of a batch, one after the other, each from the four words where it starts; their answers are written.
+pub fn work_calls(
+    calls: &[i32],
+    kinds: &mut [u8],
+    values: &mut [i32],
+    variables: &mut [i32],
+    zct: &mut [u32],
+    mrt: &mut [u32],
+    counts: &mut [u32],
+    log: &mut [u32],
+    work: &mut [u32],
+    answers: &mut [i32],
+    head: Head,
+    at: State,
+) -> State
+{
+    let mut now = at;
+    let mut i = 0;
+    while 4 * i < calls.len() {
+        let done = work_call(
+            &calls[4 * i..],
+            kinds, values, variables, zct, mrt, counts, log, work, head, now,
+        );
+        answers[2 * i] = done.status as i32;
+        answers[2 * i + 1] = done.value;
+        now = done.state;
+        i += 1;
+    }
+    now
+}
