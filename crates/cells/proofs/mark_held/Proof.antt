@@ -11,7 +11,7 @@ use Rattle.cells.proofs.mark_held.Statement.{statement}
 use Rattle.cells.proofs.mark_held.Tie as tie
 
 abbrev Inv-loop : tie.InvT-loop
-Inv-loop variables work₀ n v₀ work v = (v ≤ length variables) × Marks n work (map heldOf (take v variables))
+Inv-loop variables work₀ n v₀ work v = Marks n work (map heldOf (take v variables)) × (v ≤ length variables)
 
 abbrev μ-loop : tie.MeasureT-loop
 μ-loop variables work₀ n v₀ work v = length variables - v
@@ -23,7 +23,7 @@ loop-holds : tie.Need-loop-holds Inv-loop μ-loop
 loop-holds c =
     let z = c .before .before .clear in
     let s = c .before .before .before .before .before in
-    (search needs, marked-none (s .args .work .now) _ (s .args .variables .now) (z .kept .0) (z .ensures))
+    (marked-none (s .args .work .now) _ (s .args .variables .now) (z .kept .0) (z .ensures), search needs)
 
 held-requires : tie.Need-held-requires Inv-loop μ-loop
 held-requires c κs = search needs
@@ -43,18 +43,18 @@ loop-again c =
     let h = c .before .before .before .before .held in
     let l = c .before .before .before .before .before .before .loop in
     let t = c .before .before .before .before .before .loop-test .taken in
-    (omega arith, marked-next _ _ _ _ _ _ t (l .inv .1) (h .ensures) (m .ensures))
+    (marked-next _ _ _ _ _ _ t (l .inv .0) (h .ensures) (m .ensures), omega arith)
 
 same-length : tie.Need-same-length Inv-loop μ-loop
 same-length c =
     let z = c .before .before .before .before .clear .kept .0 in
-    let l = c .before .loop .inv .1 .long in
+    let l = c .before .loop .inv .0 .long in
     omega arith
 
 returns : tie.Need-returns Inv-loop μ-loop
 returns c =
     let z = c .before .before .before .before .clear .kept .0 in
-    rw z at (marked-all _ _ _ _ (c .loop-test .left) (c .before .loop .inv .1))
+    rw z at (marked-all _ _ _ _ (c .loop-test .left) (c .before .loop .inv .0))
 
 pub mark-held-spec : {M : Type 1} → statement M
 mark-held-spec =
