@@ -2,3 +2,4 @@
 pub mod Words
 pub mod Listing
 pub mod Seeing
+pub mod Acting

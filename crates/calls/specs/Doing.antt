@@ -69,6 +69,8 @@ pub record Linkable (n : ℕ) (ks : List ℕ) (xs vs : List ℤ) (log : List ℕ
   pub w-below : w < length vs
   pub holding : want (isHeld (var shape v)) 11 ≡ 0
   pub held-w : want (isHeld (var shape w)) 11 ≡ 0
+  pub entries : List Transaction
+  pub logged : Logged n log len entries
   pub room : 2 * (len + (length (drops (at shape v f)) + 1)) ≤ length log
 
 -- the first free cell, if there is one, can be taken for v
@@ -88,4 +90,6 @@ pub record Able (n : ℕ) (ks : List ℕ) (xs vs : List ℤ) (log : List ℕ) (l
   pub shown : Shown n ks xs vs shape
   pub named : Named (length vs) c
   pub right : check c shape ≡ 0
+  pub entries : List Transaction
+  pub logged : Logged n log len entries
   pub room : 2 * (len + needs c shape) ≤ length log

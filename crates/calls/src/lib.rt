@@ -1,18 +1,30 @@
 // The ten calls on rows, without the settle before them: a call from its words, what refuses it, what it needs, what it does.
 ghost use mathlib.Core.Path.{_≡_};
-ghost use mathlib.Core.Bool.{Bool, true, _&&_};
+ghost use mathlib.Core.Bool.{Bool, true, _&&_, cond};
 ghost use mathlib.Core.List.{List, _++_};
 ghost use mathlib.Core.Option.{Option, none};
 ghost use Prim.Native.Nat.{ℕ, _+_, _*_, _-_, _<_, _≤_};
-ghost use lib.ListN.{length, getD};
+ghost use lib.ListN.{length, getD, set};
 ghost use lib.IntN.{ℤ, pos};
-ghost use Rattle.rules.specs.Settle.{Shape, drops};
-ghost use Rattle.rules.specs.Call.{callOf, given, isBelow, isNought, var, at, isHeld, isCell, isFigure, want, orElse, check, makes};
+ghost use Rattle.rules.specs.declared.Used.{Used};
+ghost use Rattle.rules.specs.Head.{Sizes};
+ghost use Rattle.rules.specs.Rules.{Transaction};
+ghost use Rattle.rules.specs.Settle.{Shape, Heap, drops};
+ghost use Rattle.rules.specs.Call.{callOf, given, isBelow, isNought, var, at, isHeld, isCell, isFigure, want, orElse, check, makes, write, toCell, target, figureOf, sameCell};
+ghost use Rattle.rules.specs.Step.{doNew};
+ghost use Rattle.rules.specs.Rows.{Inside, Logged, Whole};
+ghost use Rattle.cells.specs.Leaves.{heldAs};
 ghost use Rattle.calls.specs.Words.{decodedAs, isSome, callAt, Decides};
 ghost use Rattle.calls.specs.Seen.{Held, Shown, Reach, Reaches, needs};
+ghost use Rattle.calls.specs.Doing.{acted, Did, Plain, Wrote, Writable, Linkable, Takeable, Able};
+use cells::add_entry;
 use cells::address;
 use cells::field_at;
 use cells::held;
+use cells::hold;
+use cells::log_old;
+use cells::put_field;
+use cells::take_free;
 use rules::Call;
 use rules::Field;
 
@@ -392,4 +404,224 @@ pub struct Acted {
     pub first: usize,
     pub status: usize,
     pub value: i32,
+}
+
+// ---- what it does
+
+// Variable v holds what w holds.
+pub fn copy(variables: &mut [i32], n: usize, v: usize, w: usize)
+    requires { ⌜ (v < length (now variables)) × ((w < length (now variables)) × (n ≤ 1024)) ⌝ }
+    ensures { λ _. ⌜ ((hs : List (Option ℕ)) → Held n (now (variables .entry)) hs → Held n (now (variables .exit)) (set hs v (getD hs w none))) ⌝ }
+{
+    let a = held(variables, w, n);
+    hold(variables, v, n, a);
+}
+
+// Variable v holds nothing.
+pub fn let_go(variables: &mut [i32], n: usize, v: usize)
+    requires { ⌜ (v < length (now variables)) × (n ≤ 1024) ⌝ }
+    ensures { λ _. ⌜ ((hs : List (Option ℕ)) → Held n (now (variables .entry)) hs → Held n (now (variables .exit)) (set hs v none)) ⌝ }
+{
+    hold(variables, v, n, n);
+}
+
+// The cell that a field names, or n where it names none.
+pub fn target_or(f: Field, n: usize) -> usize
+    ensures { λ r. ⌜ (Inside n f → heldAs n r ≡ target f) ⌝ }
+{
+    match f {
+        Field::Nothing => n,
+        Field::Figure(_) => n,
+        Field::Cell(a) => a,
+        Field::Free(_) => n,
+    }
+}
+
+// Variable w holds the cell that field f of v's cell names.
+pub fn follow(
+    kinds: &[u8],
+    values: &[i32],
+    variables: &mut [i32],
+    n: usize,
+    v: usize,
+    f: usize,
+    w: usize,
+)
+    requires { ⌜ Reach n (now kinds) (now values) (now variables) v f ⌝ }
+    requires { ⌜ (w < length (now variables)) × (n ≤ 1024) ⌝ }
+    ensures { λ _. ⌜ ((s : Shape) → Shown n (now (kinds .entry)) (now (values .entry)) (now (variables .entry)) s → Held n (now (variables .exit)) (set (s .variables) w (target (at s v f)))) ⌝ }
+{
+    let a = target_or(field_of(kinds, values, variables, n, v, f), n);
+    hold(variables, w, n, a);
+}
+
+// Field f of v's cell becomes x: a destroy is logged for its old target. The log's length afterwards.
+pub fn write(
+    kinds: &mut [u8],
+    values: &mut [i32],
+    variables: &[i32],
+    log: &mut [u32],
+    n: usize,
+    len: usize,
+    v: usize,
+    f: usize,
+    x: Field,
+) -> usize
+    requires { ⌜ Writable n (now kinds) (now values) (now variables) (now log) len v f x ⌝ }
+    ensures { λ r. ⌜ ((s : Shape) (ts : List Transaction) → Shown n (now (kinds .entry)) (now (values .entry)) (now (variables .entry)) s → Logged n (now (log .entry)) len ts → Wrote n (now (kinds .exit)) (now (values .exit)) (now (variables .entry)) (now (log .exit)) r (write s v f x) (ts ++ drops (at s v f))) ⌝ }
+{
+    let i = 2 * held(variables, v, n) + f;
+    let old = field_at(kinds, values, i);
+    let r = log_old(log, len, old);
+    put_field(kinds, values, i, x);
+    r
+}
+
+// Field f of v's cell becomes w's cell: a destroy for its old target is logged, then a create. The log's length afterwards.
+pub fn link(
+    kinds: &mut [u8],
+    values: &mut [i32],
+    variables: &[i32],
+    log: &mut [u32],
+    n: usize,
+    len: usize,
+    v: usize,
+    f: usize,
+    w: usize,
+) -> usize
+    requires { ⌜ Linkable n (now kinds) (now values) (now variables) (now log) len v f w ⌝ }
+    ensures { λ r. ⌜ ((s : Shape) (ts : List Transaction) → Shown n (now (kinds .entry)) (now (values .entry)) (now (variables .entry)) s → Logged n (now (log .entry)) len ts → Wrote n (now (kinds .exit)) (now (values .exit)) (now (variables .entry)) (now (log .exit)) r (write s v f (toCell (var s w))) (ts ++ (drops (at s v f) ++ makes (var s w)))) ⌝ }
+{
+    let b = held(variables, w, n);
+    let l = write(kinds, values, variables, log, n, len, v, f, Field::Cell(b));
+    add_entry(log, l, 2, b)
+}
+
+// The figure that a field is, else 0.
+pub fn figure_of(f: Field) -> i32
+    ensures { λ r. ⌜ r ≡ figureOf f ⌝ }
+{
+    match f {
+        Field::Nothing => 0,
+        Field::Figure(x) => x,
+        Field::Cell(_) => 0,
+        Field::Free(_) => 0,
+    }
+}
+
+// The figure in field f of v's cell.
+pub fn read(kinds: &[u8], values: &[i32], variables: &[i32], n: usize, v: usize, f: usize) -> i32
+    requires { ⌜ Reach n (now kinds) (now values) (now variables) v f ⌝ }
+    ensures { λ r. ⌜ ((s : Shape) → Shown n (now (kinds .entry)) (now (values .entry)) (now (variables .entry)) s → r ≡ figureOf (at s v f)) ⌝ }
+{
+    figure_of(field_of(kinds, values, variables, n, v, f))
+}
+
+// 1 if v and w hold one cell, else 0.
+pub fn same(variables: &[i32], n: usize, v: usize, w: usize) -> i32
+    requires { ⌜ (v < length (now variables)) × (w < length (now variables)) ⌝ }
+    ensures { λ r. ⌜ ((hs : List (Option ℕ)) → Held n (now (variables .entry)) hs → r ≡ cond (sameCell (getD hs v none) (getD hs w none)) (pos 1) (pos 0)) ⌝ }
+{
+    let a = held(variables, v, n);
+    let b = held(variables, w, n);
+    if n <= a {
+        return 0;
+    }
+    if a == b { 1 } else { 0 }
+}
+
+// A call that was done, with its value.
+pub fn done(len: usize, first: usize, value: i32) -> Acted
+    ensures { λ r. ⌜ Plain len first value r ⌝ }
+{
+    Acted {
+        len: len,
+        first: first,
+        status: 0,
+        value: value,
+    }
+}
+
+// The first free cell is taken, both fields nothing: v holds it, an allocate is logged; 14 where no cell is free.
+pub fn take(
+    kinds: &mut [u8],
+    values: &mut [i32],
+    variables: &mut [i32],
+    log: &mut [u32],
+    n: usize,
+    len: usize,
+    first: usize,
+    v: usize,
+) -> Acted
+    requires { ⌜ Takeable n (now kinds) (now values) (now variables) (now log) len first v ⌝ }
+    ensures { λ r. ⌜ ((s : Sizes) (cap : ℕ) (zs ms cs work : List ℕ) (u : Used) (h : Heap) → s .n ≡ n → Whole n cap (now (kinds .entry)) (now (values .entry)) (now (variables .entry)) zs ms cs (now (log .entry)) work len first u h → Did n cap (now (kinds .exit)) (now (values .exit)) (now (variables .exit)) zs ms cs (now (log .exit)) work u r (doNew s v h)) ⌝ }
+{
+    if first == n {
+        return Acted {
+            len: len,
+            first: first,
+            status: 14,
+            value: 0,
+        };
+    }
+    let next = take_free(kinds, values, first);
+    hold(variables, v, n, first);
+    let l = add_entry(log, len, 1, first);
+    done(l, next, 0)
+}
+
+// What a call does, after the settle before it: it was not refused by 11 to 13, and its entries have room in the log.
+pub fn act(
+    call: Call,
+    kinds: &mut [u8],
+    values: &mut [i32],
+    variables: &mut [i32],
+    log: &mut [u32],
+    n: usize,
+    len: usize,
+    first: usize,
+) -> Acted
+    requires { ⌜ Able n (now kinds) (now values) (now variables) (now log) len first call ⌝ }
+    ensures { λ r. ⌜ ((s : Sizes) (cap : ℕ) (zs ms cs work : List ℕ) (u : Used) (h : Heap) → s .n ≡ n → Whole n cap (now (kinds .entry)) (now (values .entry)) (now (variables .entry)) zs ms cs (now (log .entry)) work len first u h → Did n cap (now (kinds .exit)) (now (values .exit)) (now (variables .exit)) zs ms cs (now (log .exit)) work u r (acted s call h)) ⌝ }
+{
+    match call {
+        Call::New(v) => take(kinds, values, variables, log, n, len, first, v),
+        Call::Copy(v, w) => {
+            copy(variables, n, v, w);
+            done(len, first, 0)
+        }
+        Call::Clear(v) => {
+            let_go(variables, n, v);
+            done(len, first, 0)
+        }
+        Call::Link(v, f, w) => {
+            let l = link(kinds, values, variables, log, n, len, v, f, w);
+            done(l, first, 0)
+        }
+        Call::Put(v, f, x) => {
+            let l = write(
+                kinds,
+                values,
+                variables,
+                log,
+                n,
+                len,
+                v,
+                f,
+                Field::Figure(x),
+            );
+            done(l, first, 0)
+        }
+        Call::Blank(v, f) => {
+            let l = write(kinds, values, variables, log, n, len, v, f, Field::Nothing);
+            done(l, first, 0)
+        }
+        Call::Follow(v, f, w) => {
+            follow(kinds, values, variables, n, v, f, w);
+            done(len, first, 0)
+        }
+        Call::Read(v, f) => done(len, first, read(kinds, values, variables, n, v, f)),
+        Call::Same(v, w) => done(len, first, same(variables, n, v, w)),
+        Call::Settle => done(len, first, 0),
+    }
 }

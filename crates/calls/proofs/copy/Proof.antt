@@ -1,0 +1,29 @@
+use Rattle.calls.proofs.Acting.{copied}
+use borrow.Author.Needs.{needs}
+use Rattle.calls.proofs.copy.Statement.{statement}
+use Rattle.calls.proofs.copy.Tie as tie
+use Rattle.calls.proofs.copy.Reads as reads
+use Rattle.calls.proofs.copy.Lts as lts
+use Rattle.cells.proofs.held.Reads as held-reads
+use Rattle.cells.proofs.hold.Reads as hold-reads
+
+-- src/lib.rt:416:9
+held-requires : tie.Need-held-requires
+held-requires c κs = search needs
+
+-- src/lib.rt:417:5
+hold-requires : tie.Need-hold-requires
+hold-requires c κs = search needs
+
+-- src/lib.rt:412:1
+same-length : tie.Need-same-length
+same-length c = search needs
+
+-- src/lib.rt:412:1
+returns : tie.Need-returns
+returns c =
+    let p = c .before .before .before .before .before .pre in
+    λ hs H. copied _ _ _ (p .1 .0) H (c .before .before .before .held .ensures) (c .before .hold .ensures)
+
+pub copy-spec : {M : Type 1} → statement M
+copy-spec = tie.close (tie.spec held-requires hold-requires same-length returns)

@@ -1,0 +1,22 @@
+use Rattle.calls.proofs.Acting.{gone}
+use borrow.Author.Needs.{needs}
+use Rattle.calls.proofs.let_go.Statement.{statement}
+use Rattle.calls.proofs.let_go.Tie as tie
+use Rattle.calls.proofs.let_go.Reads as reads
+use Rattle.calls.proofs.let_go.Lts as lts
+use Rattle.cells.proofs.hold.Reads as hold-reads
+
+-- src/lib.rt:425:5
+hold-requires : tie.Need-hold-requires
+hold-requires c κs = search needs
+
+-- src/lib.rt:421:1
+same-length : tie.Need-same-length
+same-length c = search needs
+
+-- src/lib.rt:421:1
+returns : tie.Need-returns
+returns c = λ hs H. gone _ H (c .before .hold .ensures)
+
+pub let-go-spec : {M : Type 1} → statement M
+let-go-spec = tie.close (tie.spec hold-requires same-length returns)

@@ -1,0 +1,48 @@
+use borrow.Author.Needs.{needs}
+use Rattle.calls.proofs.link.Statement.{statement}
+use Rattle.calls.proofs.link.Tie as tie
+use Rattle.calls.proofs.link.Reads as reads
+use Rattle.calls.proofs.link.Lts as lts
+use Rattle.calls.proofs.write.Reads as write-reads
+use Rattle.cells.proofs.add_entry.Reads as add-entry-reads
+use Rattle.cells.proofs.held.Reads as held-reads
+
+-- src/lib.rt:495:9
+held-requires : tie.Need-held-requires
+held-requires c κs = search needs
+
+-- src/lib.rt:496:9
+write-requires : tie.Need-write-requires
+write-requires c κs = ?
+
+-- src/lib.rt:497:5
+add-entry-requires : tie.Need-add-entry-requires
+add-entry-requires c κs = ?
+
+-- src/lib.rt:481:1
+same-length : tie.Need-same-length
+same-length c = search needs
+
+-- src/lib.rt:481:1
+same-length-2 : tie.Need-same-length-2
+same-length-2 c = search needs
+
+-- src/lib.rt:481:1
+same-length-3 : tie.Need-same-length-3
+same-length-3 c = search needs
+
+-- src/lib.rt:481:1
+returns : tie.Need-returns
+returns c = ?
+
+pub link-spec : {M : Type 1} → statement M
+link-spec =
+    tie.close
+    (tie.spec
+    held-requires
+    write-requires
+    add-entry-requires
+    same-length
+    same-length-2
+    same-length-3
+    returns)

@@ -1,0 +1,25 @@
+use mathlib.Core.Path.{_∙_, ap}
+use Rattle.rules.specs.Call.{figureOf}
+use Rattle.cells.proofs.Signed.{back}
+use borrow.Author.Needs.{needs}
+use Rattle.calls.proofs.read.Statement.{statement}
+use Rattle.calls.proofs.read.Tie as tie
+use Rattle.calls.proofs.read.Reads as reads
+use Rattle.calls.proofs.read.Lts as lts
+use Rattle.calls.proofs.field_of.Reads as field-of-reads
+use Rattle.calls.proofs.figure_of.Reads as figure-of-reads
+
+-- src/lib.rt:517:15
+field-of-requires : tie.Need-field-of-requires
+field-of-requires c κs = search needs
+
+-- src/lib.rt:517:5
+figure-of-requires : tie.Need-figure-of-requires
+figure-of-requires c κs = search needs
+
+-- src/lib.rt:513:1
+returns : tie.Need-returns
+returns c = λ s S. back _ (c .figure-of .ok) ∙ c .figure-of .ensures ∙ ap figureOf (c .before .field-of .ensures s S)
+
+pub read-spec : {M : Type 1} → statement M
+read-spec = tie.close (tie.spec field-of-requires figure-of-requires returns)

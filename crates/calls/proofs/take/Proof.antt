@@ -1,0 +1,69 @@
+use mathlib.Core.Path.{refl}
+use native.Mathlib.Omega.{arith}
+use Rattle.calls.proofs.Acting.{none-free, took}
+use borrow.Author.Needs.{needs}
+use Rattle.calls.proofs.take.Statement.{statement}
+use Rattle.calls.proofs.take.Tie as tie
+use Rattle.calls.proofs.take.Reads as reads
+use Rattle.calls.proofs.take.Lts as lts
+use Rattle.calls.proofs.done.Reads as done-reads
+use Rattle.cells.proofs.add_entry.Reads as add-entry-reads
+use Rattle.cells.proofs.hold.Reads as hold-reads
+use Rattle.cells.proofs.take_free.Reads as take-free-reads
+
+-- src/lib.rt:560:9
+returns : tie.Need-returns
+returns c = λ s cap zs ms cs work u h e W. none-free s _ _ e (c .if1 .taken) W refl refl refl refl
+
+-- src/lib.rt:567:9
+take-free-requires : tie.Need-take-free-requires
+take-free-requires c κs = search needs
+
+-- src/lib.rt:568:5
+hold-requires : tie.Need-hold-requires
+hold-requires c κs = search needs
+
+-- src/lib.rt:569:9
+add-entry-requires : tie.Need-add-entry-requires
+add-entry-requires c κs = search needs
+
+-- src/lib.rt:570:5
+done-requires : tie.Need-done-requires
+done-requires c κs = search needs
+
+-- src/lib.rt:546:1
+same-length : tie.Need-same-length
+same-length c = search needs
+
+-- src/lib.rt:546:1
+same-length-2 : tie.Need-same-length-2
+same-length-2 c = search needs
+
+-- src/lib.rt:546:1
+same-length-3 : tie.Need-same-length-3
+same-length-3 c = search needs
+
+-- src/lib.rt:546:1
+same-length-4 : tie.Need-same-length-4
+same-length-4 c = search needs
+
+-- src/lib.rt:546:1
+returns-2 : tie.Need-returns-2
+returns-2 c =
+    λ s cap zs ms cs work u h e W.
+    took s _ _ e (c .before .before .before .before .before .before .before .before .before .before .before .before .before .before .if1 .left) W (c .before .before .before .before .before .before .before .before .before .before .before .take-free .ensures) (c .before .before .before .before .before .before .hold .ensures) (c .before .before .before .add-entry .ensures) (c .done .ensures)
+
+pub take-spec : {M : Type 1} → statement M
+take-spec =
+    tie.close
+    (tie.spec
+    returns
+    take-free-requires
+    hold-requires
+    add-entry-requires
+    done-requires
+    same-length
+    same-length-2
+    same-length-3
+    same-length-4
+    returns-2)

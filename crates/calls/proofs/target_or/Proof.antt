@@ -1,0 +1,55 @@
+use native.Mathlib.Omega.{arith}
+use borrow.Author.Tests.{lt-ltb}
+use Rattle.calls.proofs.Acting.{no-address}
+use Rattle.rules.specs.Call.{target}
+use Rattle.rules.specs.Rows.{Inside}
+use borrow.Author.Needs.{needs}
+use Rattle.calls.proofs.target_or.Statement.{statement}
+use Rattle.calls.proofs.target_or.Tie as tie
+use Rattle.calls.proofs.target_or.Reads as reads
+use Rattle.calls.proofs.target_or.Lts as lts
+
+-- src/lib.rt:433:27
+enum-told : tie.Need-enum-told
+enum-told c = search needs
+
+-- src/lib.rt:434:29
+enum-told-2 : tie.Need-enum-told-2
+enum-told-2 c = search needs
+
+-- src/lib.rt:435:21
+enum-known-f : tie.Need-enum-known-f
+enum-known-f c = search needs
+
+-- src/lib.rt:436:27
+enum-told-3 : tie.Need-enum-told-3
+enum-told-3 c = search needs
+
+-- src/lib.rt:429:1
+returns : tie.Need-returns
+unfolding target
+returns c =
+    λ I. rw (c .enum-told .given .1) (no-address (c .before .before .args .n))
+
+-- src/lib.rt:429:1
+returns-2 : tie.Need-returns-2
+unfolding target
+returns-2 c =
+    λ I. rw (c .enum-told2 .given .1) (no-address (c .before .before .args .n))
+
+-- src/lib.rt:429:1
+returns-3 : tie.Need-returns-3
+unfolding target
+returns-3 c =
+    λ I. rw (c .before .f .given .1, lt-ltb _ _ (rw (c .before .f .given .1) at I))
+
+-- src/lib.rt:429:1
+returns-4 : tie.Need-returns-4
+unfolding target
+returns-4 c =
+    λ I. rw (c .enum-told3 .given .1) (no-address (c .before .before .args .n))
+
+pub target-or-spec : {M : Type 1} → statement M
+target-or-spec =
+    tie.close
+    (tie.spec enum-told enum-told-2 enum-known-f enum-told-3 returns returns-2 returns-3 returns-4)
