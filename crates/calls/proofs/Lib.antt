@@ -3,3 +3,4 @@ pub mod Words
 pub mod Listing
 pub mod Seeing
 pub mod Acting
+pub mod Arms

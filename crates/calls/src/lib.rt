@@ -408,21 +408,25 @@ pub struct Acted {
 
 // ---- what it does
 
-// Variable v holds what w holds.
-pub fn copy(variables: &mut [i32], n: usize, v: usize, w: usize)
+// Variable v holds what w holds. The call's value.
+pub fn copy(variables: &mut [i32], n: usize, v: usize, w: usize) -> i32
     requires { ⌜ (v < length (now variables)) × ((w < length (now variables)) × (n ≤ 1024)) ⌝ }
-    ensures { λ _. ⌜ ((hs : List (Option ℕ)) → Held n (now (variables .entry)) hs → Held n (now (variables .exit)) (set hs v (getD hs w none))) ⌝ }
+    ensures value { λ r. ⌜ r ≡ pos 0 ⌝ }
+    ensures holds { λ _. ⌜ ((hs : List (Option ℕ)) → Held n (now (variables .entry)) hs → Held n (now (variables .exit)) (set hs v (getD hs w none))) ⌝ }
 {
     let a = held(variables, w, n);
     hold(variables, v, n, a);
+    0
 }
 
-// Variable v holds nothing.
-pub fn let_go(variables: &mut [i32], n: usize, v: usize)
+// Variable v holds nothing. The call's value.
+pub fn let_go(variables: &mut [i32], n: usize, v: usize) -> i32
     requires { ⌜ (v < length (now variables)) × (n ≤ 1024) ⌝ }
-    ensures { λ _. ⌜ ((hs : List (Option ℕ)) → Held n (now (variables .entry)) hs → Held n (now (variables .exit)) (set hs v none)) ⌝ }
+    ensures value { λ r. ⌜ r ≡ pos 0 ⌝ }
+    ensures holds { λ _. ⌜ ((hs : List (Option ℕ)) → Held n (now (variables .entry)) hs → Held n (now (variables .exit)) (set hs v none)) ⌝ }
 {
     hold(variables, v, n, n);
+    0
 }
 
 // The cell that a field names, or n where it names none.
@@ -437,7 +441,7 @@ pub fn target_or(f: Field, n: usize) -> usize
     }
 }
 
-// Variable w holds the cell that field f of v's cell names.
+// Variable w holds the cell that field f of v's cell names. The call's value.
 pub fn follow(
     kinds: &[u8],
     values: &[i32],
@@ -446,13 +450,15 @@ pub fn follow(
     v: usize,
     f: usize,
     w: usize,
-)
+) -> i32
     requires { ⌜ Reach n (now kinds) (now values) (now variables) v f ⌝ }
     requires { ⌜ (w < length (now variables)) × (n ≤ 1024) ⌝ }
-    ensures { λ _. ⌜ ((s : Shape) → Shown n (now (kinds .entry)) (now (values .entry)) (now (variables .entry)) s → Held n (now (variables .exit)) (set (s .variables) w (target (at s v f)))) ⌝ }
+    ensures value { λ r. ⌜ r ≡ pos 0 ⌝ }
+    ensures holds { λ _. ⌜ ((s : Shape) → Shown n (now (kinds .entry)) (now (values .entry)) (now (variables .entry)) s → Held n (now (variables .exit)) (set (s .variables) w (target (at s v f)))) ⌝ }
 {
     let a = target_or(field_of(kinds, values, variables, n, v, f), n);
     hold(variables, w, n, a);
+    0
 }
 
 // Field f of v's cell becomes x: a destroy is logged for its old target. The log's length afterwards.
@@ -586,14 +592,8 @@ pub fn act(
 {
     match call {
         Call::New(v) => take(kinds, values, variables, log, n, len, first, v),
-        Call::Copy(v, w) => {
-            copy(variables, n, v, w);
-            done(len, first, 0)
-        }
-        Call::Clear(v) => {
-            let_go(variables, n, v);
-            done(len, first, 0)
-        }
+        Call::Copy(v, w) => done(len, first, copy(variables, n, v, w)),
+        Call::Clear(v) => done(len, first, let_go(variables, n, v)),
         Call::Link(v, f, w) => {
             let l = link(kinds, values, variables, log, n, len, v, f, w);
             done(l, first, 0)
@@ -616,10 +616,7 @@ pub fn act(
             let l = write(kinds, values, variables, log, n, len, v, f, Field::Nothing);
             done(l, first, 0)
         }
-        Call::Follow(v, f, w) => {
-            follow(kinds, values, variables, n, v, f, w);
-            done(len, first, 0)
-        }
+        Call::Follow(v, f, w) => done(len, first, follow(kinds, values, variables, n, v, f, w)),
         Call::Read(v, f) => done(len, first, read(kinds, values, variables, n, v, f)),
         Call::Same(v, w) => done(len, first, same(variables, n, v, w)),
         Call::Settle => done(len, first, 0),

@@ -1,3 +1,4 @@
+use mathlib.Core.Path.{refl}
 use Rattle.calls.proofs.Acting.{copied}
 use borrow.Author.Needs.{needs}
 use Rattle.calls.proofs.copy.Statement.{statement}
@@ -23,7 +24,7 @@ same-length c = search needs
 returns : tie.Need-returns
 returns c =
     let p = c .before .before .before .before .before .pre in
-    λ hs H. copied _ _ _ (p .1 .0) H (c .before .before .before .held .ensures) (c .before .hold .ensures)
+    (refl, λ hs H. copied _ _ _ (p .1 .0) H (c .before .before .before .held .ensures) (c .before .hold .ensures))
 
 pub copy-spec : {M : Type 1} → statement M
 copy-spec = tie.close (tie.spec held-requires hold-requires same-length returns)

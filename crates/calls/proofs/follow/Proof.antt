@@ -1,3 +1,4 @@
+use mathlib.Core.Path.{refl}
 use Rattle.calls.proofs.Acting.{followed}
 use borrow.Author.Needs.{needs}
 use Rattle.calls.proofs.follow.Statement.{statement}
@@ -27,7 +28,7 @@ same-length c = search needs
 -- src/lib.rt:441:1
 returns : tie.Need-returns
 returns c =
-    λ s S. followed _ _ _ _ _ S (c .before .before .before .before .field-of .ensures s S) (c .before .before .before .target-or .ensures) (c .before .hold .ensures)
+    (refl, λ s S. followed _ _ _ _ _ S (c .before .before .before .before .field-of .ensures s S) (c .before .before .before .target-or .ensures) (c .before .hold .ensures))
 
 pub follow-spec : {M : Type 1} → statement M
 follow-spec =

@@ -1,3 +1,4 @@
+use mathlib.Core.Path.{refl}
 use Rattle.calls.proofs.Acting.{gone}
 use borrow.Author.Needs.{needs}
 use Rattle.calls.proofs.let_go.Statement.{statement}
@@ -16,7 +17,7 @@ same-length c = search needs
 
 -- src/lib.rt:421:1
 returns : tie.Need-returns
-returns c = λ hs H. gone _ H (c .before .hold .ensures)
+returns c = (refl, λ hs H. gone _ H (c .before .hold .ensures))
 
 pub let-go-spec : {M : Type 1} → statement M
 let-go-spec = tie.close (tie.spec hold-requires same-length returns)

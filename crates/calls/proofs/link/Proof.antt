@@ -1,3 +1,6 @@
+use native.Mathlib.Omega.{arith}
+use Rattle.calls.proofs.Acting.{linked}
+use Rattle.calls.proofs.Arms.{link-near, link-writable, link-room}
 use borrow.Author.Needs.{needs}
 use Rattle.calls.proofs.link.Statement.{statement}
 use Rattle.calls.proofs.link.Tie as tie
@@ -13,11 +16,14 @@ held-requires c κs = search needs
 
 -- src/lib.rt:496:9
 write-requires : tie.Need-write-requires
-write-requires c κs = ?
+write-requires c κs = link-writable (c .before .before .before .before .before .before .pre) (c .before .before .before .held .ensures)
 
 -- src/lib.rt:497:5
 add-entry-requires : tie.Need-add-entry-requires
-add-entry-requires c κs = ?
+add-entry-requires c κs =
+    let p = c .before .before .before .before .before .before .before .before .before .before .before .before .before .pre in
+    let g = c .before .before .before .before .before .before .write .ensures (p .shape) (p .entries) (p .shown) (p .logged) .logged in
+    (link-room p (c .before .before .before .before .before .before .before .before .before .before .held .ensures) g (search needs), search needs)
 
 -- src/lib.rt:481:1
 same-length : tie.Need-same-length
@@ -33,7 +39,10 @@ same-length-3 c = search needs
 
 -- src/lib.rt:481:1
 returns : tie.Need-returns
-returns c = ?
+returns c =
+    let p = c .before .before .before .before .before .before .before .before .before .before .before .before .before .before .before .before .pre in
+    let b = c .before .before .before .before .before .before .before .before .before .before .before .before .before .held .ensures in
+    λ s ts S L. linked s ts _ _ _ _ (S .held) (p .w-below) b (link-near p b) (c .before .before .before .before .before .before .before .before .before .write .ensures s ts S L) (c .before .before .add-entry .ensures)
 
 pub link-spec : {M : Type 1} → statement M
 link-spec =
