@@ -42,7 +42,7 @@ returns : tie.Need-returns
 returns c =
     let p = c .before .before .before .before .before .before .before .before .before .before .before .before .before .before .before .before .pre in
     let b = c .before .before .before .before .before .before .before .before .before .before .before .before .before .held .ensures in
-    λ s ts S L. linked s ts _ _ _ _ (S .held) (p .w-below) b (link-near p b) (c .before .before .before .before .before .before .before .before .before .write .ensures s ts S L) (c .before .before .add-entry .ensures)
+    λ s ts S L. linked s ts _ _ _ _ (S .held) (p .w-below) b (link-near p b) (c .before .before .before .before .before .before .before .before .before .write .ensures s ts S L) (c .before .before .add-entry .ensures .1)
 
 pub link-spec : {M : Type 1} → statement M
 link-spec =

@@ -51,7 +51,7 @@ same-length-4 c = search needs
 returns-2 : tie.Need-returns-2
 returns-2 c =
     λ s cap zs ms cs work u h e W.
-    took s _ _ e (c .before .before .before .before .before .before .before .before .before .before .before .before .before .before .if1 .left) W (c .before .before .before .before .before .before .before .before .before .before .before .take-free .ensures) (c .before .before .before .before .before .before .hold .ensures) (c .before .before .before .add-entry .ensures) (c .done .ensures)
+    took s _ _ e (c .before .before .before .before .before .before .before .before .before .before .before .before .before .before .if1 .left) W (c .before .before .before .before .before .before .before .before .before .before .before .take-free .ensures) (c .before .before .before .before .before .before .hold .ensures) (c .before .before .before .add-entry .ensures .1) (c .done .ensures)
 
 pub take-spec : {M : Type 1} → statement M
 take-spec =

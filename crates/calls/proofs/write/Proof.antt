@@ -61,7 +61,7 @@ returns c =
     let p = c .before .before .before .before .before .before .before .before .before .before .before .before .before .before .before .before .pre in
     let a = c .before .before .before .before .before .before .before .before .before .before .before .before .before .held .ensures in
     let w = c .before .before .before .put-field .ensures in
-    λ s ts S L. wrote _ _ _ _ _ S L (p .v-below) a (near p a) (p .inside) (c .before .before .before .before .before .before .before .before .before .before .field-at .ensures) (w .0) (w .1) (c .before .before .before .before .before .before .before .before .log-old .ensures)
+    λ s ts S L. wrote _ _ _ _ _ S L (p .v-below) a (near p a) (p .inside) (c .before .before .before .before .before .before .before .before .before .before .field-at .ensures) (w .0) (w .1) (c .before .before .before .before .before .before .before .before .log-old .ensures .1)
 
 pub write-spec : {M : Type 1} → statement M
 write-spec =
