@@ -4,7 +4,7 @@ use mathlib.Core.Path.{_≡_, refl, sym, ap, _∙_}
 use mathlib.Core.Bool.{Bool, true, false, _||_}
 use mathlib.Core.List.{List, []}
 use native.Mathlib.Omega.{arith}
-use lib.Dec.{ltb}
+use lib.Dec.{ltb, eqb}
 use lib.IntN.{ℤ, pos}
 use lib.ListN.{length}
 use borrow.Author.Tests.{le-ltb}
@@ -55,3 +55,41 @@ module _ (s : Sizes) (h : Heap) (fits : length (h .log) ≤ s .l) where
   unfolding step
   step-refused c zero e n = absurd (n refl)
   step-refused c (suc k) e n = rw (e, step)
+
+-- the test for room in the log, as the code makes it
+pub full-as : (s : Sizes) (h : Heap) (l len k j : ℕ) → s .l ≡ l → len ≡ length (h .log) → k ≡ j → ltb l (len + k) ≡ full s j h
+unfolding full
+full-as s h l len k j e f g = rw (e, ← f, g)
+
+-- what the code answers for a call d, from its two tests: room is short, no cell is free
+abbrev pub answers : Call → Bool → Bool → Bool
+answers (New v) p q = p || q
+answers (Copy v w) p q = p
+answers (Clear v) p q = p
+answers (Link v f w) p q = p
+answers (Put v f x) p q = p
+answers (Blank v f) p q = p
+answers (Follow v f w) p q = p
+answers (Read v f) p q = p
+answers (Same v w) p q = p
+answers Settle p q = true
+
+wants-as : (s : Sizes) (h : Heap) (d : Call) → wants s d h ≡ answers d (full s (needs d (h .shape)) h) (noneFree s h)
+unfolding wants needs
+wants-as s h (New v) = refl
+wants-as s h (Copy v w) = refl
+wants-as s h (Clear v) = refl
+wants-as s h (Link v f w) = refl
+wants-as s h (Put v f x) = refl
+wants-as s h (Blank v f) = refl
+wants-as s h (Follow v f w) = refl
+wants-as s h (Read v f) = refl
+wants-as s h (Same v w) = refl
+wants-as s h Settle = refl
+
+pub settles-as : (s : Sizes) (h : Heap) (c d : Call) (n l len first k : ℕ) (x : Bool) → c ≡ d → s .n ≡ n → s .l ≡ l → len ≡ length (h .log) → first ≡ h .first → k ≡ needs c (h .shape)
+    → x ≡ answers d (ltb l (len + k)) (eqb first n) → x ≡ wants s c h
+unfolding noneFree
+settles-as s h c d n l len first k x e a b f g j y =
+    rw e
+    (y ∙ sym (wants-as s h d ∙ rw (← full-as s h l len k (needs d (h .shape)) b f (rw e at j), ← g, a)))

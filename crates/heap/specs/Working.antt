@@ -23,6 +23,8 @@ use Rattle.rules.proofs.Fine.{Fine}
 use Rattle.rules.proofs.Calls.{Fits, AllFit}
 use Rattle.calls.specs.Seen.{needs}
 use Rattle.calls.specs.Doing.{acted}
+use Rattle.calls.specs.declared.Acted.{Acted}
+use Rattle.settle.specs.declared.Room.{Room}
 use Rattle.heap.specs.declared.State.{State}
 use Rattle.heap.specs.declared.Worked.{Worked}
 
@@ -51,6 +53,12 @@ valued (Follow v f w) k a = a
 valued (Read v f) k a = a
 valued (Same v w) k a = a
 valued Settle k a = answer 0 (pos k)
+
+-- what a call leaves, from its settle and from what it did
+pub record LeftBy (c : Call) (m : Room) (a : Acted) (freed : ℕ) (r : Worked) : Type 0 where
+  pub state : r .state ≡ record { len = a .len; first = a .first; used = m .used; freed = freed + m .freed }
+  pub status : r .status ≡ a .status
+  pub value : (k : ℕ) → r .value ≡ valued c (m .freed) (answer k (a .value)) .value
 
 -- all rows are the heap h, which has the invariant, and so many cells were freed
 pub record Standing (s : Sizes) (ks : List ℕ) (xs vs : List ℤ) (zs ms cs log work : List ℕ) (at : State) (h : Heap) : Type 0 where

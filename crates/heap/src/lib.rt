@@ -11,15 +11,16 @@ ghost use Rattle.rules.specs.declared.Call.{Call};
 ghost use Rattle.rules.specs.Head.{Sizes, sizesOf};
 ghost use Rattle.rules.specs.Settle.{Heap};
 ghost use Rattle.rules.specs.Call.{callsIn};
-ghost use Rattle.rules.specs.Step as rules_step;
+ghost use Rattle.rules.specs.Step.{step as stepped};
 ghost use Rattle.rules.specs.Rows.{lent};
 ghost use Rattle.rules.specs.Refusals.{leaves, leavesWith, freshOf, auditOf, batchOf};
 ghost use Rattle.calls.specs.Seen.{needs};
-ghost use Rattle.heap.specs.Working.{wants, valued, Standing, Workable, Answered};
+ghost use Rattle.heap.specs.Working.{wants, valued, LeftBy, Standing, Workable, Answered};
 use calls::Acted;
 use calls::act;
 use calls::check;
 use calls::need;
+use cells::value_of;
 use rules::Call;
 use rules::Head;
 use rules::Used;
@@ -74,7 +75,7 @@ pub fn settles_first(
 }
 
 // A call's value: a settle call's is the number of cells that its settle freed.
-pub fn value_of(call: Call, freed: usize, value: i32) -> i32
+pub fn answer_value(call: Call, freed: usize, value: i32) -> i32
     requires { ⌜ freed ≤ 1024 ⌝ }
     ensures { λ r. ⌜ ((status : ℕ) → r ≡ valued call freed (record { status = status; value = value }) .value) ⌝ }
 {
@@ -88,16 +89,17 @@ pub fn value_of(call: Call, freed: usize, value: i32) -> i32
         Call::Follow(_, _, _) => value,
         Call::Read(_, _) => value,
         Call::Same(_, _) => value,
-        Call::Settle => freed as i32,
+        Call::Settle => value_of(freed),
     }
 }
 
 // What a call leaves: from its settle and from what it did.
 pub fn left(call: Call, room: Room, acted: Acted, freed: usize) -> Worked
     requires { ⌜ (room .freed ≤ 1024) × (freed ≤ 1000000) ⌝ }
+    ensures { λ r. ⌜ LeftBy call room acted freed r ⌝ }
 {
     let now = room.freed;
-    let value = value_of(call, now, acted.value);
+    let value = answer_value(call, now, acted.value);
     let used = room.used;
     let state = State {
         len: acted.len,
@@ -128,7 +130,7 @@ pub fn step(
 ) -> Worked
     requires { ⌜ Workable (sizesOf head) (now kinds) (now values) (now variables) (now zct) (now mrt) (now counts) (now log) (now work) at call ⌝ }
     ensures small { λ r. ⌜ r .state .freed ≤ at .freed + 1024 ⌝ }
-    ensures { λ r. ⌜ ((h : Heap) → Standing (sizesOf head) (now (kinds .entry)) (now (values .entry)) (now (variables .entry)) (now (zct .entry)) (now (mrt .entry)) (now (counts .entry)) (now (log .entry)) (now (work .entry)) at h → Answered (sizesOf head) (now (kinds .exit)) (now (values .exit)) (now (variables .exit)) (now (zct .exit)) (now (mrt .exit)) (now (counts .exit)) (now (log .exit)) (now (work .exit)) r (rules_step.step (sizesOf head) call h)) ⌝ }
+    ensures { λ r. ⌜ ((h : Heap) → Standing (sizesOf head) (now (kinds .entry)) (now (values .entry)) (now (variables .entry)) (now (zct .entry)) (now (mrt .entry)) (now (counts .entry)) (now (log .entry)) (now (work .entry)) at h → Answered (sizesOf head) (now (kinds .exit)) (now (values .exit)) (now (variables .exit)) (now (zct .exit)) (now (mrt .exit)) (now (counts .exit)) (now (log .exit)) (now (work .exit)) r (stepped (sizesOf head) call h)) ⌝ }
 {
     let n = head.n;
     let no = check(call, kinds, values, variables, n);
@@ -172,67 +174,4 @@ pub fn step(
         room.first,
     );
     left(call, room, acted, freed)
-}
-
-// The call that stands at the start of these words is worked. (A batch's words were found right before.)
-pub fn work_call(
-    words: &[i32],
-    kinds: &mut [u8],
-    values: &mut [i32],
-    variables: &mut [i32],
-    zct: &mut [u32],
-    mrt: &mut [u32],
-    counts: &mut [u32],
-    log: &mut [u32],
-    work: &mut [u32],
-    head: Head,
-    at: State,
-) -> Worked
-    requires { ⌜ Callable (sizesOf head) (now words) (now kinds) (now values) (now variables) (now zct) (now mrt) (now counts) (now log) (now work) at ⌝ }
-    ensures small { λ r. ⌜ r .state .freed ≤ at .freed + 1024 ⌝ }
-    ensures { λ r. ⌜ ((c : Call) (h : Heap) → callAt (head .m) (now (words .entry)) 0 ≡ some c → Standing (sizesOf head) (now (kinds .entry)) (now (values .entry)) (now (variables .entry)) (now (zct .entry)) (now (mrt .entry)) (now (counts .entry)) (now (log .entry)) (now (work .entry)) at h → Answered (sizesOf head) (now (kinds .exit)) (now (values .exit)) (now (variables .exit)) (now (zct .exit)) (now (mrt .exit)) (now (counts .exit)) (now (log .exit)) (now (work .exit)) r (rules_step.step (sizesOf head) c h)) ⌝ }
-{
-    let m = head.m;
-    let found = call_at(words, 0, m);
-    match found {
-        Decoded::Is(call) => step(
-            call, kinds, values, variables, zct, mrt, counts, log, work, head, at,
-        ),
-        Decoded::Bad => Worked {
-            state: at,
-            status: 0,
-            value: 0,
-        },
-    }
-}
-
-// The calls of a batch, one after the other, each from the four words where it starts; their answers are written.
-pub fn work_calls(
-    calls: &[i32],
-    kinds: &mut [u8],
-    values: &mut [i32],
-    variables: &mut [i32],
-    zct: &mut [u32],
-    mrt: &mut [u32],
-    counts: &mut [u32],
-    log: &mut [u32],
-    work: &mut [u32],
-    answers: &mut [i32],
-    head: Head,
-    at: State,
-) -> State
-{
-    let mut now = at;
-    let mut i = 0;
-    while 4 * i < calls.len() {
-        let done = work_call(
-            &calls[4 * i..],
-            kinds, values, variables, zct, mrt, counts, log, work, head, now,
-        );
-        answers[2 * i] = done.status as i32;
-        answers[2 * i + 1] = done.value;
-        now = done.state;
-        i += 1;
-    }
-    now
 }

@@ -1,0 +1,22 @@
+use mathlib.Core.Path.{refl, _∙_}
+use borrow.Author.Needs.{needs}
+use Rattle.heap.proofs.left.Statement.{statement}
+use Rattle.heap.proofs.left.Tie as tie
+use Rattle.heap.proofs.left.Reads as reads
+use Rattle.heap.proofs.left.Lts as lts
+use Rattle.heap.proofs.answer_value.Reads as answer-value-reads
+
+-- src/lib.rt:102:9
+answer-value-requires : tie.Need-answer-value-requires
+answer-value-requires c κs = search needs
+
+-- src/lib.rt:108:16
+add-t9 : tie.Need-add-t9
+add-t9 c = search needs
+
+-- src/lib.rt:97:1
+returns : tie.Need-returns
+returns c = record { state = refl; status = refl; value = λ k. (search needs) ∙ c .before .answer-value .ensures k }
+
+pub left-spec : {M : Type 1} → statement M
+left-spec = tie.close (tie.spec answer-value-requires add-t9 returns)
