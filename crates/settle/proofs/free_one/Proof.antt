@@ -52,7 +52,9 @@ release-requires c κs = let y = c .before .before .before in
     let x = y .before .before .before in
     let s = x .before .before .before .before .before .before .before .before .before in
     let R = s .pre .0 .rows in
-    (tabled (R .ready) (R .bounds), (s .pre .1, (read-inside (R .cells) (x .field-at .result) _ (x .field-at .ensures), read-inside (R .cells) (y .field-at2 .result) _ (y .field-at2 .ensures))))
+    let X = read-inside (R .cells) (x .field-at .result) _ (x .field-at .ensures) in
+    let Y = read-inside (R .cells) (y .field-at2 .result) _ (y .field-at2 .ensures) in
+    (tabled (R .ready) (R .bounds), (s .pre .1, search needs))
 
 free-cell-requires : tie.Need-free-cell-requires
 free-cell-requires c κs = let s = c .before .before .before .before .before .before .before .before .before .before .before .before .before .before .before .before .before .before .before .before .before .before .before .before in
@@ -60,14 +62,20 @@ free-cell-requires c κs = let s = c .before .before .before .before .before .be
     ((S .kinds, S .values), S .next)
 
 lower-to-requires : tie.Need-lower-to-requires
-lower-to-requires c κs = let x = c .before .before .before .before .before .before .before .before .before .before .before .before .before .before .before .before .before .before .before in
+lower-to-requires c κs = let y = c .before .before .before .before .before .before .before .before .before .before .before .before .before .before .before .before in
+    let x = y .before .before .before in
     let R = x .before .before .before .before .before .before .before .before .before .pre .0 .rows in
-    inside-more (x .field-at .result) (R .bounds .most) (read-inside (R .cells) (x .field-at .result) _ (x .field-at .ensures))
+    let X = inside-more (x .field-at .result) (R .bounds .most) (read-inside (R .cells) (x .field-at .result) _ (x .field-at .ensures)) in
+    let Y = inside-more (y .field-at2 .result) (R .bounds .most) (read-inside (R .cells) (y .field-at2 .result) _ (y .field-at2 .ensures)) in
+    search needs
 
 lower-to-requires-2 : tie.Need-lower-to-requires-2
 lower-to-requires-2 c κs = let y = c .before .before .before .before .before .before .before .before .before .before .before .before .before .before .before .before .before in
-    let R = y .before .before .before .before .before .before .before .before .before .before .before .before .pre .0 .rows in
-    inside-more (y .field-at2 .result) (R .bounds .most) (read-inside (R .cells) (y .field-at2 .result) _ (y .field-at2 .ensures))
+    let x = y .before .before .before in
+    let R = x .before .before .before .before .before .before .before .before .before .pre .0 .rows in
+    let X = inside-more (x .field-at .result) (R .bounds .most) (read-inside (R .cells) (x .field-at .result) _ (x .field-at .ensures)) in
+    let Y = inside-more (y .field-at2 .result) (R .bounds .most) (read-inside (R .cells) (y .field-at2 .result) _ (y .field-at2 .ensures)) in
+    search needs
 
 same-length : tie.Need-same-length
 same-length c = search needs

@@ -17,7 +17,9 @@ let-go-requires c κs = let k = c .before .before .before .before .before .cut-a
     let s = c .before .before .before .before .before .before .before .before .before .before in
     let T = s .pre .0 in
     let R = left (T .bounds .big) (T .ready) (s .pre .1 .0) (k .ensures .0) (k .ensures .1) in
-    (tabled R (T .bounds), inside-as (s .args .x) (sym (R .are .zct-is .long)) (s .pre .1 .1 .0))
+    let X = inside-as (s .args .x) (sym (R .are .zct-is .long)) (s .pre .1 .1 .0) in
+    let Y = inside-as (s .args .y) (sym (R .are .zct-is .long)) (s .pre .1 .1 .1) in
+    (tabled R (T .bounds), search needs)
 
 let-go-requires-2 : tie.Need-let-go-requires-2
 let-go-requires-2 c κs = let g = c .before .before .before .before .before .before .before .before .before in
@@ -25,7 +27,9 @@ let-go-requires-2 c κs = let g = c .before .before .before .before .before .bef
     let s = g .before .before .before .before .before .before .before .before .before .before .before in
     let T = s .pre .0 in
     let R = g .let-go .ensures _ _ (left (T .bounds .big) (T .ready) (s .pre .1 .0) (k .ensures .0) (k .ensures .1)) in
-    (tabled R (T .bounds), inside-as (s .args .y) (sym (R .are .zct-is .long)) (s .pre .1 .1 .1))
+    let X = inside-as (s .args .x) (sym (R .are .zct-is .long)) (s .pre .1 .1 .0) in
+    let Y = inside-as (s .args .y) (sym (R .are .zct-is .long)) (s .pre .1 .1 .1) in
+    (tabled R (T .bounds), search needs)
 
 same-length : tie.Need-same-length
 same-length c = search needs

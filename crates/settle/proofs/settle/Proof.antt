@@ -20,7 +20,8 @@ reclaim-requires c κs = let k = c .before .before .before .before .before .befo
     let p = k .before .before .before .before .before .before .before .before .before .before .before .before in
     let S = p .before .before .before .before .before .before .before .before .before .before .before .pre in
     let W = S .whole in
-    reclaimable (replayed-rows (W .rows) (p .replay .ensures _ _ _ (W .logged) (W .rows .ready))) (marks-as (W .work-long) (k .mark-held .ensures (S .holds) (S .counted)))
+    let n = W .work-long in
+    reclaimable (replayed-rows (W .rows) (p .replay .ensures _ _ _ (W .logged) (W .rows .ready))) (marks-as (search needs) (k .mark-held .ensures (S .holds) (S .counted)))
 
 clear-requires-2 : tie.Need-clear-requires-2
 clear-requires-2 c κs = search needs
@@ -53,7 +54,8 @@ returns c = let z = c .before .before in
     let l = k .before .before .before .before in
     let p = l .before .before .before .before .before .before .before .before in
     λ s n own hs h en ec W e.
-    let M = marks-as (W .work-long) (k .mark-held .ensures hs e) in
+    let w = W .work-long in
+    let M = marks-as {n = n} (search needs) (k .mark-held .ensures hs e) in
     let R = replayed-rows (W .rows) (p .replay .ensures n _ _ (W .logged) (W .rows .ready)) in
     settled-as s hs h _ _ en ec (M .long) W (r .reclaim .ensures n hs _ R M) (l .clear .ensures) (z .clear2 .ensures)
 
