@@ -599,17 +599,8 @@ pub fn act(
             done(l, first, 0)
         }
         Call::Put(v, f, x) => {
-            let l = write(
-                kinds,
-                values,
-                variables,
-                log,
-                n,
-                len,
-                v,
-                f,
-                Field::Figure(x),
-            );
+            let to = Field::Figure(x);
+            let l = write(kinds, values, variables, log, n, len, v, f, to);
             done(l, first, 0)
         }
         Call::Blank(v, f) => {
