@@ -1,28 +1,82 @@
 -- A call as the code works it is the call of the rules. Assumes nothing.
-use Prim.Native.Nat.{ℕ, zero, suc, _+_, _-_, _≤_}
-use mathlib.Core.Path.{_≡_, refl, sym, ap, _∙_}
-use mathlib.Core.Bool.{Bool, true, false, _||_}
+use Prim.Native.Nat.{ℕ, zero, suc, _+_, _-_, _*_, _≤_, _<_}
+use mathlib.Core.Path.{_≡_, refl, sym, ap, _∙_, subst}
+use mathlib.Core.Bool.{Bool, true, false, cond, _||_, true≢false}
 use mathlib.Core.List.{List, []}
 use native.Mathlib.Omega.{arith}
 use lib.Dec.{ltb, eqb}
 use lib.IntN.{ℤ, pos}
-use lib.ListN.{length}
+use lib.ListN.{length, length-map}
 use borrow.Author.Tests.{le-ltb}
 use Rattle.rules.specs.declared.Call.{Call}
 use Rattle.rules.specs.declared.Call.the-variants.{New, Copy, Clear, Link, Put, Blank, Follow, Read, Same, Settle}
 use Rattle.rules.specs.Head.{Sizes}
 use Rattle.rules.specs.Settle.{Shape, Heap, settled}
-use Rattle.rules.specs.Call.{Answer, answer, check, logs}
-use Rattle.rules.specs.Step.{Stepped, done, refused, settledIf, full, noneFree, doNew, doCall, doSettle, room, run, step}
+use Rattle.rules.specs.Call.{Answer, answer, var, check, logs}
+use Rattle.rules.specs.Step.{Stepped, done, refused, settledIf, full, noneFree, doNew, doCall, doSettle, takeCell, room, run, step}
 use Rattle.calls.specs.Seen.{needs}
 use Rattle.calls.specs.Doing.{acted}
-use Rattle.heap.specs.Working.{wants, valued}
+use Rattle.rules.specs.declared.Used.{Used}
+use Rattle.rules.specs.Rows.{Whole}
+use Rattle.rules.proofs.Invariant.{Inv}
+use Rattle.rules.proofs.Fine.{Fine}
+use Rattle.rules.proofs.Calls.{Fits, logs-long}
+use Rattle.rules.proofs.Step.{settledIf-inv, settledIf-room, room-check, step-inv}
+use Rattle.rules.proofs.Reclaim.{lives-le}
+use Rattle.rules.proofs.Facts.{settled-sum}
+use Rattle.cells.proofs.Storing.{cell-lengths}
+use Rattle.calls.specs.declared.Acted.{Acted}
+use Rattle.calls.specs.Seen.{Shown, Named, Reaches}
+use Rattle.calls.specs.Doing.{Did, Able}
+use Rattle.calls.proofs.Arms.{shown-of, named-of, able}
+use Rattle.settle.specs.declared.Room.{Room}
+use Rattle.settle.specs.Settling.{Settleable, RoomMade}
+use Rattle.settle.proofs.Settling.{settleable}
+use Rattle.heap.specs.declared.State.{State}
+use Rattle.heap.specs.declared.Worked.{Worked}
+use Rattle.heap.specs.Working.{wants, valued, LeftBy, Standing, Workable, Answered}
+
+-- settled first where b says so, then done
+abbrev pub workedBy : Sizes → Call → Heap → Bool → Stepped
+workedBy s c h b =
+    let k = settledIf b s h in
+    record { heap = acted s c k .heap; answer = valued c (k .freed - h .freed) (acted s c k .answer) }
+
+-- doing a call frees no cell
+acted-freed : (s : Sizes) (c : Call) (h : Heap) → acted s c h .heap .freed ≡ h .freed
+unfolding acted doCall doNew takeCell
+acted-freed s (New v) h = go (noneFree s h)
+  where
+    go : (q : Bool) → (cond q (refused h 14) (done (takeCell v h) (pos 0))) .heap .freed ≡ h .freed
+    go true = refl
+    go false = refl
+acted-freed s (Copy v w) h = refl
+acted-freed s (Clear v) h = refl
+acted-freed s (Link v f w) h = refl
+acted-freed s (Put v f x) h = refl
+acted-freed s (Blank v f) h = refl
+acted-freed s (Follow v f w) h = refl
+acted-freed s (Read v f) h = refl
+acted-freed s (Same v w) h = refl
+acted-freed s Settle h = refl
+
+-- a settle call's status is 0 as it was
+valued-status : (s : Sizes) (c : Call) (h : Heap) (j : ℕ) → valued c j (acted s c h .answer) .status ≡ acted s c h .answer .status
+unfolding valued acted
+valued-status s (New v) h j = refl
+valued-status s (Copy v w) h j = refl
+valued-status s (Clear v) h j = refl
+valued-status s (Link v f w) h j = refl
+valued-status s (Put v f x) h j = refl
+valued-status s (Blank v f) h j = refl
+valued-status s (Follow v f w) h j = refl
+valued-status s (Read v f) h j = refl
+valued-status s (Same v w) h j = refl
+valued-status s Settle h j = refl
 
 -- checked already, settled first where it wants that, then done
 abbrev pub worked : Sizes → Call → Heap → Stepped
-worked s c h =
-    let k = settledIf (wants s c h) s h in
-    record { heap = acted s c k .heap; answer = valued c (k .freed - h .freed) (acted s c k .answer) }
+worked s c h = workedBy s c h (wants s c h)
 
 module _ (s : Sizes) (h : Heap) (fits : length (h .log) ≤ s .l) where
   never : full s 0 h ≡ false
@@ -93,3 +147,147 @@ unfolding noneFree
 settles-as s h c d n l len first k x e a b f g j y =
     rw e
     (y ∙ sym (wants-as s h d ∙ rw (← full-as s h l len k (needs d (h .shape)) b f (rw e at j), ← g, a)))
+
+-- ---- a call's settle, and room for its entries
+
+pub needs-two : (c : Call) (sh : Shape) → needs c sh ≤ 2
+unfolding needs
+needs-two (New v) sh = omega arith
+needs-two (Copy v w) sh = logs-long (Copy v w) sh
+needs-two (Clear v) sh = logs-long (Clear v) sh
+needs-two (Link v f w) sh = logs-long (Link v f w) sh
+needs-two (Put v f x) sh = logs-long (Put v f x) sh
+needs-two (Blank v f) sh = logs-long (Blank v f) sh
+needs-two (Follow v f w) sh = logs-long (Follow v f w) sh
+needs-two (Read v f) sh = logs-long (Read v f) sh
+needs-two (Same v w) sh = logs-long (Same v w) sh
+needs-two Settle sh = logs-long Settle sh
+
+-- where no settle is wanted there is room
+wants-room : (s : Sizes) (h : Heap) (c : Call) → wants s c h ≡ false → full s (needs c (h .shape)) h ≡ false
+wants-room s h c e = go c (sym (wants-as s h c) ∙ e)
+  where
+    either : (p q : Bool) → (p || q) ≡ false → p ≡ false
+    either true q e = e
+    either false q e = refl
+
+    go : (d : Call) → answers d (full s (needs c (h .shape)) h) (noneFree s h) ≡ false → full s (needs c (h .shape)) h ≡ false
+    go (New v) e = either _ _ e
+    go (Copy v w) e = e
+    go (Clear v) e = e
+    go (Link v f w) e = e
+    go (Put v f x) e = e
+    go (Blank v f) e = e
+    go (Follow v f w) e = e
+    go (Read v f) e = e
+    go (Same v w) e = e
+    go Settle e = absurd (true≢false e)
+
+module _ {s : Sizes} (F : Fine s) {h : Heap} (I : Inv s h) where
+  pub after-room : (c : Call) → length (settledIf (wants s c h) s h .log) + needs c (settledIf (wants s c h) s h .shape) ≤ s .l
+  unfolding settledIf
+  after-room c = go (wants s c h) refl
+    where
+      same : (b : Bool) → b ≡ false → needs c (settledIf b s h .shape) ≤ needs c (h .shape)
+      same true e = absurd (true≢false e)
+      same false e = omega arith
+
+      go : (b : Bool) → wants s c h ≡ b → length (settledIf b s h .log) + needs c (settledIf b s h .shape) ≤ s .l
+      go b e = settledIf-room s F b (needs c (h .shape)) (needs c (settledIf b s h .shape)) h I (λ d. wants-room s h c (e ∙ d)) (needs-two c (settledIf b s h .shape)) (same b)
+
+  -- a call that passed its check passes it after the settle too
+  pub after-right : (c : Call) → check c (h .shape) ≡ 0 → check c (settledIf (wants s c h) s h .shape) ≡ 0
+  unfolding wants needs logs settledIf room check var
+  after-right (New v) e = refl
+  after-right (Copy v w) e = refl
+  after-right (Clear v) e = refl
+  after-right (Link v f w) e = room-check s F (Link v f w) h I (λ a b p. rw p) e
+  after-right (Put v f x) e = room-check s F (Put v f x) h I (λ a b p. rw p) e
+  after-right (Blank v f) e = room-check s F (Blank v f) h I (λ a b p. rw p) e
+  after-right (Follow v f w) e = rw (never s h (I .log-room)) e
+  after-right (Read v f) e = rw (never s h (I .log-room)) e
+  after-right (Same v w) e = rw (never s h (I .log-room)) e
+  after-right Settle e = refl
+
+  -- a settle frees at most n cells
+  pub few-freed : (b : Bool) → settledIf b s h .freed ≤ h .freed + s .n
+  unfolding settledIf
+  few-freed true =
+      let e = settled-sum s F h I in
+      let l = lives-le (h .shape .fields) in
+      let g = I .good .len in
+      omega arith
+  few-freed false = omega arith
+
+-- ---- on rows
+
+module _ {s : Sizes} {ks : List ℕ} {xs vs : List ℤ} {zs ms cs log work : List ℕ} {at : State} where
+  pub reaches : {h : Heap} (c : Call) → Fits s c → Standing s ks xs vs zs ms cs log work at h → Reaches (s .n) ks xs vs c
+  reaches {h} c f S =
+      let l = cell-lengths (S .whole .rows .cells) in
+      let m : length vs ≡ s .m = rw (S .whole .variables-are) (simp length-map (S .inv .variables-long)) in
+      record { kinds-long = l .0; values-long = l .1; named = rw m (named-of s c f) }
+
+  pub shown : {h : Heap} → Standing s ks xs vs zs ms cs log work at h → Shown (s .n) ks xs vs (h .shape)
+  shown S = shown-of (S .whole)
+
+  -- a call that is refused with 11 to 13
+  pub refused-as : {h : Heap} (c : Call) (k : ℕ) {x : ℤ} → Standing s ks xs vs zs ms cs log work at h → k ≡ check c (h .shape) → (k ≡ 0 → ⊥) → x ≡ pos 0
+      → Answered s ks xs vs zs ms cs log work (record { state = at; status = k; value = x }) (step s c h)
+  refused-as {h} c k S e n v =
+      rw (step-refused s h (S .inv .log-room) c k (sym e) n)
+      (record { standing = S; status = refl; value = v })
+
+  pub few : {h : Heap} → Fine s → Standing s ks xs vs zs ms cs log work at h → (at .len ≤ 1024) × (at .len ≡ length (h .log))
+  few F S =
+      let a = S .whole .logged .count in
+      let b = S .inv .log-room in
+      let d = F .l-most in
+      (omega arith, a)
+
+-- what comes of the settle before a call
+module _ {s : Sizes} (F : Fine s) {h : Heap} (I : Inv s h) (c : Call) (fit : Fits s c) (ok : check c (h .shape) ≡ 0) {make : Bool} (wanted : make ≡ wants s c h)
+    {ks : List ℕ} {xs vs : List ℤ} {zs ms cs log work : List ℕ} {r : Room} (M : RoomMade make s (s .n) (s .cap) ks xs vs zs ms cs log work r h) (long : length log ≡ 2 * s .l) where
+  pub can-act : Able (s .n) ks xs vs log (r .len) (r .first) c
+  can-act =
+      let W = M .whole in
+      let m : length vs ≡ s .m = rw (W .variables-are) (simp length-map (settledIf-inv s F make h I .0 .variables-long)) in
+      let o : length (settledIf make s h .log) + needs c (settledIf make s h .shape) ≤ s .l = rw wanted (after-room F I c) in
+      let e = W .logged .count in
+      able c W (rw m (named-of s c fit)) (rw wanted (after-right F I c ok)) (rw long (omega arith))
+
+  pub few-now : r .freed ≤ 1024
+  few-now =
+      let a = M .count in
+      let b = few-freed F I make in
+      let d = F .n-most in
+      omega arith
+
+  -- the call is done
+  module _ {ks′ : List ℕ} {xs′ vs′ : List ℤ} {log′ : List ℕ} {a : Acted} (D : Did (s .n) (s .cap) ks′ xs′ vs′ zs ms cs log′ work (r .used) a (acted s c (settledIf make s h)))
+      (long′ : length log′ ≡ 2 * s .l) {freed : ℕ} (so-far : freed ≡ h .freed) {w : Worked} (L : LeftBy c r a freed w) where
+    pub answered-as : Answered s ks′ xs′ vs′ zs ms cs log′ work w (step s c h)
+    answered-as = rw (step-worked s h (I .log-room) c ok, ← wanted) given
+      where
+        k : Heap
+        k = settledIf make s h
+
+        freed-now : k .freed - h .freed ≡ r .freed
+        freed-now = let e = M .count in omega arith
+
+        same-freed : acted s c k .heap .freed ≡ k .freed
+        same-freed = acted-freed s c k
+
+        given : Answered s ks′ xs′ vs′ zs ms cs log′ work w (record { heap = acted s c k .heap; answer = valued c (k .freed - h .freed) (acted s c k .answer) })
+        given =
+            record {
+              standing =
+                  record {
+                    whole = rw (L .state) (D .whole);
+                    inv = subst (λ (o : Stepped). Inv s (o .heap)) (step-worked s h (I .log-room) c ok ∙ ap (λ (b : Bool). workedBy s c h b) (sym wanted)) (step-inv s F c h I fit);
+                    log-long = long′;
+                    freed = rw (L .state) (let e = M .count in let g = same-freed in omega arith);
+                  };
+              status = L .status ∙ D .status ∙ sym (valued-status s c k (k .freed - h .freed));
+              value = L .value (acted s c k .answer .status) ∙ rw (D .value, ← freed-now);
+            }

@@ -1,3 +1,10 @@
+use mathlib.Core.Path.{_≡_, refl, sym, _∙_}
+use native.Mathlib.Omega.{arith}
+use Prim.Native.Nat.{_+_, _≤_}
+use lib.ListN.{length}
+use Rattle.rules.specs.Head.{sizesOf}
+use Rattle.heap.proofs.Steps.{reaches, shown, refused-as, few, needs-two, can-act, few-now, answered-as}
+use Rattle.settle.proofs.Settling.{settleable}
 use borrow.Author.Needs.{needs}
 use Rattle.heap.proofs.step.Statement.{statement}
 use Rattle.heap.proofs.step.Tie as tie
@@ -12,7 +19,7 @@ use Rattle.settle.proofs.settle_if.Reads as settle-if-reads
 
 -- src/lib.rt:136:9
 check-requires : tie.Need-check-requires
-check-requires c κs = ?
+check-requires c κs = let W = c .before .before .before .before .before .before .before .before .before .pre in reaches _ (W .fits) (W .standing)
 
 -- src/lib.rt:138:9
 same-length : tie.Need-same-length
@@ -28,15 +35,15 @@ same-length-3 c = search needs
 
 -- src/lib.rt:138:9
 returns : tie.Need-returns
-returns c = ?
+returns c = (omega arith, λ h S. refused-as _ _ S (c .before .check .ensures _ (shown S)) (c .if1 .taken) refl)
 
 -- src/lib.rt:148:9
 need-requires : tie.Need-need-requires
-need-requires c κs = ?
+need-requires c κs = let W = c .before .before .before .before .before .before .before .before .before .before .before .before .before .before .before .pre in reaches _ (W .fits) (W .standing)
 
 -- src/lib.rt:149:9
 settles-first-requires : tie.Need-settles-first-requires
-settles-first-requires c κs = ?
+settles-first-requires c κs = let W = c .before .before .before .before .before .before .before .before .before .before .before .before .before .before .before .before .pre in (rw (c .need .ensures _ (shown (W .standing))) (needs-two _ _), few (W .fine) (W .standing) .0)
 
 -- src/lib.rt:150:15
 cast-cap : tie.Need-cast-cap
@@ -44,19 +51,31 @@ cast-cap c = search needs
 
 -- src/lib.rt:151:9
 settle-if-requires : tie.Need-settle-if-requires
-settle-if-requires c κs = ?
+settle-if-requires c κs = settleable (c .before .before .before .before .before .before .before .before .before .before .before .before .before .before .before .before .before .before .before .before .before .before .before .before .before .before .pre .standing .whole)
 
 -- src/lib.rt:166:9
 act-requires : tie.Need-act-requires
-act-requires c κs = ?
+act-requires c κs =
+    let W = c .before .before .before .before .before .before .before .before .before .before .before .before .before .before .before .before .before .before .before .before .before .before .before .before .before .before .before .before .before .before .before .before .before .before .before .before .before .before .before .before .before .before .before .before .pre in
+    let S = W .standing in
+    let s = sizesOf (c .before .before .before .before .before .before .before .before .before .before .before .before .before .before .before .before .before .before .before .before .before .before .before .before .before .before .before .before .before .before .before .before .before .before .before .before .before .before .before .before .before .before .before .before .args .head) in
+    let no = sym (c .before .before .before .before .before .before .before .before .before .before .before .before .before .before .before .before .before .before .before .before .before .before .before .before .before .before .before .before .before .before .before .before .before .before .check .ensures _ (shown S)) ∙ c .before .before .before .before .before .before .before .before .before .before .before .before .before .before .before .before .before .before .before .before .before .before .before .before .before .before .before .before .before .before .before .before .before .if1 .left in
+    let make = c .before .before .before .before .before .before .before .before .before .before .before .before .before .before .before .before .before .before .before .before .before .before .before .before .before .before .before .settles-first .ensures s _ refl refl (few (W .fine) S .1) (S .whole .rows .first) (c .before .before .before .before .before .before .before .before .before .before .before .before .before .before .before .before .before .before .before .before .before .before .before .before .before .before .before .before .need .ensures _ (shown S)) in
+    can-act (W .fine) (S .inv) _ (W .fits) no make (c .before .before .before .before .before .before .before .before .before .before .before .before .before .before .before .before .before .settle-if .ensures s _ _ refl refl (S .whole)) (search needs ∙ S .log-long)
 
 -- src/lib.rt:176:5
 left-requires : tie.Need-left-requires
-left-requires c κs = ?
+left-requires c κs =
+    let W = c .before .before .before .before .before .before .before .before .before .before .before .before .before .before .before .before .before .before .before .before .before .before .before .before .before .before .before .before .before .before .before .before .before .before .before .before .before .before .before .before .before .before .before .before .before .before .before .before .before .before .before .pre in
+    let S = W .standing in
+    let s = sizesOf (c .before .before .before .before .before .before .before .before .before .before .before .before .before .before .before .before .before .before .before .before .before .before .before .before .before .before .before .before .before .before .before .before .before .before .before .before .before .before .before .before .before .before .before .before .before .before .before .before .before .before .before .args .head) in
+    let no = sym (c .before .before .before .before .before .before .before .before .before .before .before .before .before .before .before .before .before .before .before .before .before .before .before .before .before .before .before .before .before .before .before .before .before .before .before .before .before .before .before .before .before .check .ensures _ (shown S)) ∙ c .before .before .before .before .before .before .before .before .before .before .before .before .before .before .before .before .before .before .before .before .before .before .before .before .before .before .before .before .before .before .before .before .before .before .before .before .before .before .before .before .if1 .left in
+    let make = c .before .before .before .before .before .before .before .before .before .before .before .before .before .before .before .before .before .before .before .before .before .before .before .before .before .before .before .before .before .before .before .before .before .before .settles-first .ensures s _ refl refl (few (W .fine) S .1) (S .whole .rows .first) (c .before .before .before .before .before .before .before .before .before .before .before .before .before .before .before .before .before .before .before .before .before .before .before .before .before .before .before .before .before .before .before .before .before .before .before .need .ensures _ (shown S)) in
+    (few-now (W .fine) (S .inv) _ (W .fits) no make (c .before .before .before .before .before .before .before .before .before .before .before .before .before .before .before .before .before .before .before .before .before .before .before .before .settle-if .ensures s _ _ refl refl (S .whole)) (search needs ∙ S .log-long), W .few)
 
 -- src/lib.rt:118:1
 same-length-4 : tie.Need-same-length-4
-same-length-4 c = ?
+same-length-4 c = let a = c .before .before .before .before .before .before .kinds2 .given in let b = c .before .before .before .before .before .before .before .before .before .before .before .before .before .before .before .before .before .before .before .before .before .before .before .before .kinds .given in search needs
 
 -- src/lib.rt:118:1
 same-length-5 : tie.Need-same-length-5
@@ -88,7 +107,23 @@ same-length-11 c = search needs
 
 -- src/lib.rt:118:1
 returns-2 : tie.Need-returns-2
-returns-2 c = ?
+returns-2 c =
+    let g = c .before .before .before .before .before .before .before .before .before .before .before .before .before .before .before .log .given in
+    let g2 = c .before .before .log2 .given in
+    let W = c .before .before .before .before .before .before .before .before .before .before .before .before .before .before .before .before .before .before .before .before .before .before .before .before .before .before .before .before .before .before .before .before .before .before .before .before .before .before .before .before .before .before .before .before .before .before .before .before .before .before .before .before .pre in
+    let s = sizesOf (c .before .before .before .before .before .before .before .before .before .before .before .before .before .before .before .before .before .before .before .before .before .before .before .before .before .before .before .before .before .before .before .before .before .before .before .before .before .before .before .before .before .before .before .before .before .before .before .before .before .before .before .before .args .head) in
+    let S₀ = W .standing in
+    let no₀ = sym (c .before .before .before .before .before .before .before .before .before .before .before .before .before .before .before .before .before .before .before .before .before .before .before .before .before .before .before .before .before .before .before .before .before .before .before .before .before .before .before .before .before .before .check .ensures _ (shown S₀)) ∙ c .before .before .before .before .before .before .before .before .before .before .before .before .before .before .before .before .before .before .before .before .before .before .before .before .before .before .before .before .before .before .before .before .before .before .before .before .before .before .before .before .before .if1 .left in
+    let make₀ = c .before .before .before .before .before .before .before .before .before .before .before .before .before .before .before .before .before .before .before .before .before .before .before .before .before .before .before .before .before .before .before .before .before .before .before .settles-first .ensures s _ refl refl (few (W .fine) S₀ .1) (S₀ .whole .rows .first) (c .before .before .before .before .before .before .before .before .before .before .before .before .before .before .before .before .before .before .before .before .before .before .before .before .before .before .before .before .before .before .before .before .before .before .before .before .need .ensures _ (shown S₀)) in
+    let n₀ = few-now (W .fine) (S₀ .inv) _ (W .fits) no₀ make₀ (c .before .before .before .before .before .before .before .before .before .before .before .before .before .before .before .before .before .before .before .before .before .before .before .before .before .settle-if .ensures s _ _ refl refl (S₀ .whole)) (search needs ∙ S₀ .log-long) in
+    (
+      rw (c .left .ensures .state) (omega arith),
+      λ h S.
+      let no = sym (c .before .before .before .before .before .before .before .before .before .before .before .before .before .before .before .before .before .before .before .before .before .before .before .before .before .before .before .before .before .before .before .before .before .before .before .before .before .before .before .before .before .before .check .ensures _ (shown S)) ∙ c .before .before .before .before .before .before .before .before .before .before .before .before .before .before .before .before .before .before .before .before .before .before .before .before .before .before .before .before .before .before .before .before .before .before .before .before .before .before .before .before .before .if1 .left in
+      let make = c .before .before .before .before .before .before .before .before .before .before .before .before .before .before .before .before .before .before .before .before .before .before .before .before .before .before .before .before .before .before .before .before .before .before .before .settles-first .ensures s _ refl refl (few (W .fine) S .1) (S .whole .rows .first) (c .before .before .before .before .before .before .before .before .before .before .before .before .before .before .before .before .before .before .before .before .before .before .before .before .before .before .before .before .before .before .before .before .before .before .before .before .need .ensures _ (shown S)) in
+      let M = c .before .before .before .before .before .before .before .before .before .before .before .before .before .before .before .before .before .before .before .before .before .before .before .before .before .settle-if .ensures s _ _ refl refl (S .whole) in
+      answered-as (W .fine) (S .inv) _ (W .fits) no make M (search needs ∙ S .log-long) (c .before .before .before .before .before .before .before .act .ensures s _ _ _ _ _ _ _ refl (M .whole)) (search needs ∙ S .log-long) (S .freed) (c .left .ensures),
+    )
 
 pub step-spec : {M : Type 1} → statement M
 step-spec =
