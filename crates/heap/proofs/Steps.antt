@@ -1,6 +1,7 @@
 -- A call as the code works it is the call of the rules. Assumes nothing.
 use Prim.Native.Nat.{ℕ, zero, suc, _+_, _-_, _*_, _≤_, _<_}
 use mathlib.Core.Path.{_≡_, refl, sym, ap, _∙_, subst}
+use mathlib.Core.Logic.{_⊎_, inl, inr}
 use mathlib.Core.Bool.{Bool, true, false, cond, _||_, true≢false}
 use mathlib.Core.List.{List, []}
 use native.Mathlib.Omega.{arith}
@@ -23,9 +24,13 @@ use Rattle.rules.proofs.Fine.{Fine}
 use Rattle.rules.proofs.Calls.{Fits, logs-long}
 use Rattle.rules.proofs.Step.{settledIf-inv, settledIf-room, room-check, step-inv}
 use Rattle.rules.proofs.Reclaim.{lives-le}
-use Rattle.rules.proofs.Facts.{settled-sum}
+use Rattle.rules.proofs.Facts.{settled-sum, check-below, call-refused}
 use Rattle.cells.proofs.Storing.{cell-lengths}
 use Rattle.calls.specs.declared.Acted.{Acted}
+use Rattle.calls.specs.declared.Decoded.{Decoded}
+use Rattle.calls.specs.declared.Decoded.the-variants.{Is, Bad}
+use Rattle.calls.specs.Words.{decodedAs}
+use mathlib.Core.Option.{Option, some}
 use Rattle.calls.specs.Seen.{Shown, Named, Reaches}
 use Rattle.calls.specs.Doing.{Did, Able}
 use Rattle.calls.proofs.Arms.{shown-of, named-of, able}
@@ -291,3 +296,30 @@ module _ {s : Sizes} (F : Fine s) {h : Heap} (I : Inv s h) (c : Call) (fit : Fit
               status = L .status ∙ D .status ∙ sym (valued-status s c k (k .freed - h .freed));
               value = L .value (acted s c k .answer .status) ∙ rw (D .value, ← freed-now);
             }
+
+-- a status is at most 14
+pub status-small : (s : Sizes) (c : Call) (h : Heap) → step s c h .answer .status ≤ 14
+status-small s c h = go (step s c h .answer .status) refl
+  where
+    go : (k : ℕ) → step s c h .answer .status ≡ k → k ≤ 14
+    go zero e = omega arith
+    go (suc k) e = by (call-refused s c h k e .1)
+      where
+        by : {A B : Type 0} → ((check c (h .shape) ≡ suc k) × A) ⊎ ((suc k ≡ 14) × B) → suc k ≤ 14
+        by (inl p) = let b = check-below c (h .shape) in let e = p .0 in omega arith
+        by (inr p) = let e = p .0 in omega arith
+
+-- ---- the call that was found
+
+pub same-call : {d : Decoded} {x : Call} {o : Option Call} {c : Call} → d ≡ Is x → decodedAs d ≡ o → o ≡ some c → c ≡ x
+same-call e f g = cc
+
+pub no-call : {A : Type 0} {d : Decoded} {o : Option Call} {c : Call} → d ≡ Bad → decodedAs d ≡ o → o ≡ some c → A
+no-call e f g = let z : _≡_ {A = ℕ} 0 1 = cc in absurd (omega arith)
+
+module _ {s : Sizes} {ks : List ℕ} {xs vs : List ℤ} {zs ms cs log work : List ℕ} where
+  pub workable-as : {at : State} {c x : Call} → c ≡ x → Workable s ks xs vs zs ms cs log work at c → Workable s ks xs vs zs ms cs log work at x
+  workable-as {at} e W = subst (λ (d : Call). Workable s ks xs vs zs ms cs log work at d) e W
+
+  pub answered-call : {r : Worked} {c x : Call} (h : Heap) → c ≡ x → Answered s ks xs vs zs ms cs log work r (step s x h) → Answered s ks xs vs zs ms cs log work r (step s c h)
+  answered-call {r} h e A = subst (λ (d : Call). Answered s ks xs vs zs ms cs log work r (step s d h)) (sym e) A

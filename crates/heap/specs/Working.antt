@@ -3,8 +3,8 @@ use Prim.Native.Nat.{ℕ, _+_, _-_, _*_, _≤_, _<_}
 use mathlib.Core.Path.{_≡_}
 use mathlib.Core.Bool.{Bool, true, _||_}
 use mathlib.Core.Option.{Option, some}
-use mathlib.Core.List.{List, [], _∷_, _++_}
-use lib.ListN.{length, take, drop}
+use mathlib.Core.List.{List}
+use lib.ListN.{length, set}
 use lib.IntN.{ℤ, pos}
 use Rattle.rules.specs.declared.Head.{Head}
 use Rattle.rules.specs.declared.Used.{Used}
@@ -16,11 +16,12 @@ use Rattle.rules.specs.Settle.{Heap, settled}
 use Rattle.rules.specs.Call.{Answer, answer, callsIn}
 use Rattle.rules.specs.Step.{settledIf, full, noneFree, calls}
 use Rattle.rules.specs.Step as rules
-use Rattle.rules.specs.Rows.{Whole, lent, rowsOf, headOf}
-use Rattle.rules.specs.Refusals.{outcome, answerWords}
+use Rattle.rules.specs.Rows.{Whole, Lent, rowsOf, headOf}
+use Rattle.rules.specs.Refusals.{outcome, answered}
 use Rattle.rules.proofs.Invariant.{Inv}
 use Rattle.rules.proofs.Fine.{Fine}
 use Rattle.rules.proofs.Calls.{Fits, AllFit}
+use Rattle.calls.specs.Words.{callAt}
 use Rattle.calls.specs.Seen.{needs}
 use Rattle.calls.specs.Doing.{acted}
 use Rattle.calls.specs.declared.Acted.{Acted}
@@ -80,3 +81,53 @@ pub record Answered (s : Sizes) (ks : List ℕ) (xs vs : List ℤ) (zs ms cs log
   pub standing : Standing s ks xs vs zs ms cs log work (r .state) (o .heap)
   pub status : r .status ≡ o .answer .status
   pub value : r .value ≡ o .answer .value
+
+-- the words start with a call that can be worked here
+pub record Callable (s : Sizes) (ws : List ℤ) (ks : List ℕ) (xs vs : List ℤ) (zs ms cs log work : List ℕ) (at : State) : Type 0 where
+  pub call : Call
+  pub is : callAt (s .m) ws 0 ≡ some call
+  pub long : 4 ≤ length ws
+  pub workable : Workable s ks xs vs zs ms cs log work at call
+
+-- call i of the words can be worked here, and its answer has room
+pub record Turnable (s : Sizes) (ws : List ℤ) (i : ℕ) (ks : List ℕ) (xs vs : List ℤ) (zs ms cs log work : List ℕ) (as′ : List ℤ) (at : State) : Type 0 where
+  pub call : Call
+  pub is : callAt (s .m) ws (4 * i) ≡ some call
+  pub long : 4 * i + 4 ≤ length ws
+  pub most : length ws ≤ 1024
+  pub workable : Workable s ks xs vs zs ms cs log work at call
+  pub room : 2 * i + 2 ≤ length as′
+
+-- call i was worked, and its answer written
+pub record Turned (s : Sizes) (i : ℕ) (ks : List ℕ) (xs vs : List ℤ) (zs ms cs log work : List ℕ) (as′ bs : List ℤ) (r : State) (o : rules.Stepped) : Type 0 where
+  pub standing : Standing s ks xs vs zs ms cs log work r (o .heap)
+  pub answers : bs ≡ set (set as′ (2 * i) (pos (o .answer .status))) (2 * i + 1) (o .answer .value)
+
+-- the words are a batch that can be worked here
+pub record Runnable (s : Sizes) (ws : List ℤ) (ks : List ℕ) (xs vs : List ℤ) (zs ms cs log work : List ℕ) (as′ : List ℤ) (at : State) : Type 0 where
+  pub fine : Fine s
+  pub list : List Call
+  pub are : callsIn (s .m) ws ≡ some list
+  pub room : 2 * length list ≤ length as′
+  pub heap : Heap
+  pub standing : Standing s ks xs vs zs ms cs log work at heap
+  pub none-yet : at .freed ≡ 0
+
+-- the calls were worked, and their answers written: what is left to do is the settle at the batch's end
+pub record Ran (s : Sizes) (ds : List Call) (h : Heap) (ks : List ℕ) (xs vs : List ℤ) (zs ms cs log work : List ℕ) (as′ bs : List ℤ) (r : State) : Type 0 where
+  pub heap : Heap
+  pub standing : Standing s ks xs vs zs ms cs log work r heap
+  pub ends : calls s ds h .heap ≡ settled s heap
+  pub answers : bs ≡ answered (calls s ds h .answers) as′
+
+-- a batch can end here
+pub record Endable (s : Sizes) (ks : List ℕ) (xs vs : List ℤ) (zs ms cs log work : List ℕ) (at : State) : Type 0 where
+  pub fine : Fine s
+  pub heap : Heap
+  pub standing : Standing s ks xs vs zs ms cs log work at heap
+  pub few : at .freed ≤ 1000000
+
+-- the batch has ended: rows, head and count are those of h settled
+pub record Finished (s : Sizes) (h : Heap) (r : Lent) (o : Outcome) : Type 0 where
+  pub rows : r ≡ rowsOf s (settled s h)
+  pub is : o ≡ outcome 0 (headOf s (settled s h)) (settled s h .freed)

@@ -14,10 +14,13 @@ ghost use Rattle.rules.specs.Call.{callsIn};
 ghost use Rattle.rules.specs.Step.{step as stepped};
 ghost use Rattle.rules.specs.Rows.{lent};
 ghost use Rattle.rules.specs.Refusals.{leaves, leavesWith, freshOf, auditOf, batchOf};
+ghost use Rattle.calls.specs.Words.{callAt};
 ghost use Rattle.calls.specs.Seen.{needs};
-ghost use Rattle.heap.specs.Working.{wants, valued, LeftBy, Standing, Workable, Answered};
+ghost use Rattle.heap.specs.Working.{wants, valued, LeftBy, Standing, Workable, Answered, Callable, Turnable, Turned};
 use calls::Acted;
+use calls::Decoded;
 use calls::act;
+use calls::call_at;
 use calls::check;
 use calls::need;
 use cells::value_of;
@@ -43,14 +46,7 @@ pub struct Worked {
 }
 
 // Is a settle made before the call, which needs so many entries?
-pub fn settles_first(
-    call: Call,
-    need: usize,
-    n: usize,
-    l: usize,
-    len: usize,
-    first: usize,
-) -> bool
+pub fn settles_first(call: Call, need: usize, n: usize, l: usize, len: usize, first: usize) -> bool
     requires { ⌜ (need ≤ 2) × (len ≤ 1024) ⌝ }
     ensures { λ r. ⌜ ((s : Sizes) (h : Heap) → s .n ≡ n → s .l ≡ l → len ≡ length (h .log) → first ≡ h .first → need ≡ needs call (h .shape) → r ≡ wants s call h) ⌝ }
 {
@@ -163,15 +159,89 @@ pub fn step(
         used,
         cap,
     );
-    let acted = act(
-        call,
+    let acted = act(call, kinds, values, variables, log, n, room.len, room.first);
+    left(call, room, acted, freed)
+}
+
+// The call that stands at the start of these words is worked. (A batch's words were found right before.)
+pub fn work_call(
+    words: &[i32],
+    kinds: &mut [u8],
+    values: &mut [i32],
+    variables: &mut [i32],
+    zct: &mut [u32],
+    mrt: &mut [u32],
+    counts: &mut [u32],
+    log: &mut [u32],
+    work: &mut [u32],
+    head: Head,
+    at: State,
+) -> Worked
+    requires { ⌜ Callable (sizesOf head) (now words) (now kinds) (now values) (now variables) (now zct) (now mrt) (now counts) (now log) (now work) at ⌝ }
+    ensures small { λ r. ⌜ r .state .freed ≤ at .freed + 1024 ⌝ }
+    ensures { λ r. ⌜ ((c : Call) (h : Heap) → callAt (head .m) (now (words .entry)) 0 ≡ some c → Standing (sizesOf head) (now (kinds .entry)) (now (values .entry)) (now (variables .entry)) (now (zct .entry)) (now (mrt .entry)) (now (counts .entry)) (now (log .entry)) (now (work .entry)) at h → Answered (sizesOf head) (now (kinds .exit)) (now (values .exit)) (now (variables .exit)) (now (zct .exit)) (now (mrt .exit)) (now (counts .exit)) (now (log .exit)) (now (work .exit)) r (stepped (sizesOf head) c h)) ⌝ }
+{
+    let found = call_at(words, 0, head.m);
+    match found {
+        Decoded::Is(call) => step(
+            call,
+            kinds,
+            values,
+            variables,
+            zct,
+            mrt,
+            counts,
+            log,
+            work,
+            head,
+            at,
+        ),
+        Decoded::Bad => Worked {
+            state: at,
+            status: 0,
+            value: 0,
+        },
+    }
+}
+
+// Call i of a batch is worked from the four words where it starts, and its answer is written.
+pub fn work_turn(
+    calls: &[i32],
+    i: usize,
+    kinds: &mut [u8],
+    values: &mut [i32],
+    variables: &mut [i32],
+    zct: &mut [u32],
+    mrt: &mut [u32],
+    counts: &mut [u32],
+    log: &mut [u32],
+    work: &mut [u32],
+    answers: &mut [i32],
+    head: Head,
+    at: State,
+) -> State
+    requires { ⌜ Turnable (sizesOf head) (now calls) i (now kinds) (now values) (now variables) (now zct) (now mrt) (now counts) (now log) (now work) (now answers) at ⌝ }
+    ensures small { λ r. ⌜ r .freed ≤ at .freed + 1024 ⌝ }
+    ensures { λ r. ⌜ ((c : Call) (h : Heap) → callAt (head .m) (now (calls .entry)) (4 * i) ≡ some c → Standing (sizesOf head) (now (kinds .entry)) (now (values .entry)) (now (variables .entry)) (now (zct .entry)) (now (mrt .entry)) (now (counts .entry)) (now (log .entry)) (now (work .entry)) at h → Turned (sizesOf head) i (now (kinds .exit)) (now (values .exit)) (now (variables .exit)) (now (zct .exit)) (now (mrt .exit)) (now (counts .exit)) (now (log .exit)) (now (work .exit)) (now (answers .entry)) (now (answers .exit)) r (stepped (sizesOf head) c h)) ⌝ }
+{
+    let p = 4 * i;
+    let done = work_call(
+        &calls[p..],
         kinds,
         values,
         variables,
+        zct,
+        mrt,
+        counts,
         log,
-        n,
-        room.len,
-        room.first,
+        work,
+        head,
+        at,
     );
-    left(call, room, acted, freed)
+    let q = 2 * i;
+    let status = value_of(done.status);
+    answers[q] = status;
+    let value = done.value;
+    answers[q + 1] = value;
+    done.state
 }

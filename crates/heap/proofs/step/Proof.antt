@@ -115,14 +115,13 @@ returns-2 c =
     let S₀ = W .standing in
     let no₀ = sym (c .before .before .before .before .before .before .before .before .before .before .before .before .before .before .before .before .before .before .before .before .before .before .before .before .before .before .before .before .before .before .before .before .before .before .before .before .before .before .before .before .before .before .check .ensures _ (shown S₀)) ∙ c .before .before .before .before .before .before .before .before .before .before .before .before .before .before .before .before .before .before .before .before .before .before .before .before .before .before .before .before .before .before .before .before .before .before .before .before .before .before .before .before .before .if1 .left in
     let make₀ = c .before .before .before .before .before .before .before .before .before .before .before .before .before .before .before .before .before .before .before .before .before .before .before .before .before .before .before .before .before .before .before .before .before .before .before .settles-first .ensures s _ refl refl (few (W .fine) S₀ .1) (S₀ .whole .rows .first) (c .before .before .before .before .before .before .before .before .before .before .before .before .before .before .before .before .before .before .before .before .before .before .before .before .before .before .before .before .before .before .before .before .before .before .before .before .need .ensures _ (shown S₀)) in
-    let n₀ = few-now (W .fine) (S₀ .inv) _ (W .fits) no₀ make₀ (c .before .before .before .before .before .before .before .before .before .before .before .before .before .before .before .before .before .before .before .before .before .before .before .before .before .settle-if .ensures s _ _ refl refl (S₀ .whole)) (search needs ∙ S₀ .log-long) in
-    (
+    let n₀ = few-now (W .fine) (S₀ .inv) _ (W .fits) no₀ make₀ (c .before .before .before .before .before .before .before .before .before .before .before .before .before .before .before .before .before .before .before .before .before .before .before .before .before .settle-if .ensures s _ _ refl refl (S₀ .whole)) (search needs ∙ S₀ .log-long) in (
       rw (c .left .ensures .state) (omega arith),
       λ h S.
-      let no = sym (c .before .before .before .before .before .before .before .before .before .before .before .before .before .before .before .before .before .before .before .before .before .before .before .before .before .before .before .before .before .before .before .before .before .before .before .before .before .before .before .before .before .before .check .ensures _ (shown S)) ∙ c .before .before .before .before .before .before .before .before .before .before .before .before .before .before .before .before .before .before .before .before .before .before .before .before .before .before .before .before .before .before .before .before .before .before .before .before .before .before .before .before .before .if1 .left in
-      let make = c .before .before .before .before .before .before .before .before .before .before .before .before .before .before .before .before .before .before .before .before .before .before .before .before .before .before .before .before .before .before .before .before .before .before .before .settles-first .ensures s _ refl refl (few (W .fine) S .1) (S .whole .rows .first) (c .before .before .before .before .before .before .before .before .before .before .before .before .before .before .before .before .before .before .before .before .before .before .before .before .before .before .before .before .before .before .before .before .before .before .before .before .need .ensures _ (shown S)) in
-      let M = c .before .before .before .before .before .before .before .before .before .before .before .before .before .before .before .before .before .before .before .before .before .before .before .before .before .settle-if .ensures s _ _ refl refl (S .whole) in
-      answered-as (W .fine) (S .inv) _ (W .fits) no make M (search needs ∙ S .log-long) (c .before .before .before .before .before .before .before .act .ensures s _ _ _ _ _ _ _ refl (M .whole)) (search needs ∙ S .log-long) (S .freed) (c .left .ensures),
+          let no = sym (c .before .before .before .before .before .before .before .before .before .before .before .before .before .before .before .before .before .before .before .before .before .before .before .before .before .before .before .before .before .before .before .before .before .before .before .before .before .before .before .before .before .before .check .ensures _ (shown S)) ∙ c .before .before .before .before .before .before .before .before .before .before .before .before .before .before .before .before .before .before .before .before .before .before .before .before .before .before .before .before .before .before .before .before .before .before .before .before .before .before .before .before .before .if1 .left in
+          let make = c .before .before .before .before .before .before .before .before .before .before .before .before .before .before .before .before .before .before .before .before .before .before .before .before .before .before .before .before .before .before .before .before .before .before .before .settles-first .ensures s _ refl refl (few (W .fine) S .1) (S .whole .rows .first) (c .before .before .before .before .before .before .before .before .before .before .before .before .before .before .before .before .before .before .before .before .before .before .before .before .before .before .before .before .before .before .before .before .before .before .before .before .need .ensures _ (shown S)) in
+          let M = c .before .before .before .before .before .before .before .before .before .before .before .before .before .before .before .before .before .before .before .before .before .before .before .before .before .settle-if .ensures s _ _ refl refl (S .whole) in
+          answered-as (W .fine) (S .inv) _ (W .fits) no make M (search needs ∙ S .log-long) (c .before .before .before .before .before .before .before .act .ensures s _ _ _ _ _ _ _ refl (M .whole)) (search needs ∙ S .log-long) (S .freed) (c .left .ensures),
     )
 
 pub step-spec : {M : Type 1} → statement M
