@@ -7,7 +7,8 @@ use mathlib.Core.List.{List, []}
 use native.Mathlib.Omega.{arith}
 use lib.Dec.{ltb, eqb}
 use lib.IntN.{ℤ, pos}
-use lib.ListN.{length, length-map}
+use lib.ListN.{length, length-map, length-set, getD, set, take, drop, length-take, length-drop}
+use lib.Seq.{getD-take, getD-drop}
 use borrow.Author.Tests.{le-ltb}
 use Rattle.rules.specs.declared.Call.{Call}
 use Rattle.rules.specs.declared.Call.the-variants.{New, Copy, Clear, Link, Put, Blank, Follow, Read, Same, Settle}
@@ -29,7 +30,7 @@ use Rattle.cells.proofs.Storing.{cell-lengths}
 use Rattle.calls.specs.declared.Acted.{Acted}
 use Rattle.calls.specs.declared.Decoded.{Decoded}
 use Rattle.calls.specs.declared.Decoded.the-variants.{Is, Bad}
-use Rattle.calls.specs.Words.{decodedAs}
+use Rattle.calls.specs.Words.{decodedAs, callAt}
 use mathlib.Core.Option.{Option, some}
 use Rattle.calls.specs.Seen.{Shown, Named, Reaches}
 use Rattle.calls.specs.Doing.{Did, Able}
@@ -323,3 +324,29 @@ module _ {s : Sizes} {ks : List ℕ} {xs vs : List ℤ} {zs ms cs log work : Lis
 
   pub answered-call : {r : Worked} {c x : Call} (h : Heap) → c ≡ x → Answered s ks xs vs zs ms cs log work r (step s x h) → Answered s ks xs vs zs ms cs log work r (step s c h)
   answered-call {r} h e A = subst (λ (d : Call). Answered s ks xs vs zs ms cs log work r (step s d h)) (sym e) A
+
+-- ---- a part of the calls row, from where a call starts
+
+module _ (m : ℕ) (ws : List ℤ) (p k : ℕ) (four : 4 ≤ k) where
+  part-word : (j : ℕ) → j < 4 → getD (take k (drop p ws)) j (pos 0) ≡ getD ws (p + j) (pos 0)
+  part-word j l = getD-take k (drop p ws) j (pos 0) (omega arith) ∙ getD-drop p ws j (pos 0)
+
+  pub part-call : callAt m (take k (drop p ws)) 0 ≡ callAt m ws p
+  part-call =
+      let z : p + 0 ≡ p = omega arith in
+      rw (part-word 0 (omega arith), part-word 1 (omega arith), part-word 2 (omega arith), part-word 3 (omega arith), z)
+
+  pub part-long : p + k ≤ length ws → 4 ≤ length (take k (drop p ws))
+  part-long h = simp (length-take, length-drop) (omega arith)
+
+-- the words from call i on
+module _ (ws : List ℤ) (i : ℕ) (long : 4 * i + 4 ≤ length ws) where
+  pub turn-call : (m : ℕ) {c : Call} → callAt m ws (4 * i) ≡ some c → callAt m (take (length ws - 4 * i) (drop (4 * i) ws)) 0 ≡ some c
+  turn-call m e = part-call m ws (4 * i) (length ws - 4 * i) (omega arith) ∙ e
+
+  pub turn-long : 4 ≤ length (take (length ws - 4 * i) (drop (4 * i) ws))
+  turn-long = part-long 0 ws (4 * i) (length ws - 4 * i) (omega arith) (omega arith)
+
+-- an answer written: status and value
+pub two-set : (as′ : List ℤ) (q : ℕ) {a b x y : ℤ} → a ≡ x → b ≡ y → set (set as′ q a) (q + 1) b ≡ set (set as′ q x) (q + 1) y
+two-set as′ q e f = rw (e, f)

@@ -16,7 +16,7 @@ ghost use Rattle.rules.specs.Rows.{lent};
 ghost use Rattle.rules.specs.Refusals.{leaves, leavesWith, freshOf, auditOf, batchOf};
 ghost use Rattle.calls.specs.Words.{callAt};
 ghost use Rattle.calls.specs.Seen.{needs};
-ghost use Rattle.heap.specs.Working.{wants, valued, LeftBy, Standing, Workable, Answered, Callable, Turnable, Turned};
+ghost use Rattle.heap.specs.Working.{wants, valued, LeftBy, Standing, Workable, Answered, Callable, Turnable, Turned, Runnable, Ran, Endable, Finished};
 use calls::Acted;
 use calls::Decoded;
 use calls::act;
@@ -26,8 +26,10 @@ use calls::need;
 use cells::value_of;
 use rules::Call;
 use rules::Head;
+use rules::Outcome;
 use rules::Used;
 use settle::Room;
+use settle::settle;
 use settle::settle_if;
 
 // Where a batch stands: the log's length, the first free address, the used lengths, the cells freed so far.
@@ -244,4 +246,96 @@ pub fn work_turn(
     let value = done.value;
     answers[q + 1] = value;
     done.state
+}
+
+// The calls of a batch, one after the other.
+pub fn work_calls(
+    calls: &[i32],
+    kinds: &mut [u8],
+    values: &mut [i32],
+    variables: &mut [i32],
+    zct: &mut [u32],
+    mrt: &mut [u32],
+    counts: &mut [u32],
+    log: &mut [u32],
+    work: &mut [u32],
+    answers: &mut [i32],
+    head: Head,
+    at: State,
+) -> State
+    requires { ⌜ Runnable (sizesOf head) (now calls) (now kinds) (now values) (now variables) (now zct) (now mrt) (now counts) (now log) (now work) (now answers) at ⌝ }
+    ensures small { λ r. ⌜ r .freed ≤ 262144 ⌝ }
+    ensures { λ r. ⌜ ((ds : List Call) (h : Heap) → callsIn (head .m) (now (calls .entry)) ≡ some ds → Standing (sizesOf head) (now (kinds .entry)) (now (values .entry)) (now (variables .entry)) (now (zct .entry)) (now (mrt .entry)) (now (counts .entry)) (now (log .entry)) (now (work .entry)) at h → Ran (sizesOf head) ds h (now (kinds .exit)) (now (values .exit)) (now (variables .exit)) (now (zct .exit)) (now (mrt .exit)) (now (counts .exit)) (now (log .exit)) (now (work .exit)) (now (answers .entry)) (now (answers .exit)) r) ⌝ }
+{
+    let mut state = at;
+    let mut i = 0;
+    while 4 * i < calls.len() {
+        state = work_turn(
+            calls,
+            i,
+            kinds,
+            values,
+            variables,
+            zct,
+            mrt,
+            counts,
+            log,
+            work,
+            answers,
+            head,
+            state,
+        );
+        i += 1;
+    }
+    state
+}
+
+// The settle at a batch's end, and what the batch returns.
+pub fn end_batch(
+    kinds: &mut [u8],
+    values: &mut [i32],
+    variables: &[i32],
+    zct: &mut [u32],
+    mrt: &mut [u32],
+    counts: &mut [u32],
+    log: &mut [u32],
+    work: &mut [u32],
+    head: Head,
+    at: State,
+) -> Outcome
+    requires { ⌜ Endable (sizesOf head) (now kinds) (now values) (now variables) (now zct) (now mrt) (now counts) (now log) (now work) at ⌝ }
+    ensures { λ r. ⌜ ((h : Heap) → Standing (sizesOf head) (now (kinds .entry)) (now (values .entry)) (now (variables .entry)) (now (zct .entry)) (now (mrt .entry)) (now (counts .entry)) (now (log .entry)) (now (work .entry)) at h → Finished (sizesOf head) h (lent (now (kinds .exit)) (now (values .exit)) (now (variables .entry)) (now (zct .exit)) (now (mrt .exit)) (now (counts .exit)) (now (log .exit)) (now (work .exit))) r) ⌝ }
+{
+    let freed = at.freed;
+    let used = at.used;
+    let cap = head.cap as u32;
+    let r = settle(
+        kinds,
+        values,
+        variables,
+        zct,
+        mrt,
+        counts,
+        log,
+        work,
+        at.len,
+        at.first,
+        used,
+        cap,
+    );
+    let left = r.used;
+    let next = Head {
+        n: head.n,
+        m: head.m,
+        l: head.l,
+        cap: head.cap,
+        free: r.first,
+        zct: left.zct,
+        mrt: left.mrt,
+    };
+    Outcome {
+        status: 0,
+        head: next,
+        count: freed + r.freed,
+    }
 }

@@ -1,3 +1,12 @@
+use native.Mathlib.Omega.{arith}
+use mathlib.Core.Path.{_≡_, refl, sym, ap, _∙_}
+use mir.Syntax.{w32}
+use mir.Val.{toZ, ofZ}
+use Prim.Native.Nat.{_*_}
+use lib.ListN.{length-set}
+use lib.IntN.{pos}
+use Rattle.rules.specs.Head.{sizesOf}
+use Rattle.heap.proofs.Steps.{turn-call, turn-long, two-set, status-small}
 use borrow.Author.Needs.{needs}
 use Rattle.heap.proofs.work_turn.Statement.{statement}
 use Rattle.heap.proofs.work_turn.Tie as tie
@@ -28,35 +37,35 @@ part-work-call-end c = search needs
 
 -- src/lib.rt:228:9
 work-call-requires : tie.Need-work-call-requires
-work-call-requires c κs = ?
+work-call-requires c κs = let K = c .before .before .before .before .before .before .before .before .before .before .before .before .before .before .before .pre in record { call = K .call; is = turn-call (c .before .before .before .before .before .before .before .before .before .before .before .before .before .before .before .args .calls .now) (c .before .before .before .before .before .before .before .before .before .before .before .before .before .before .before .args .i) (K .long) _ (K .is); long = turn-long (c .before .before .before .before .before .before .before .before .before .before .before .before .before .before .before .args .calls .now) (c .before .before .before .before .before .before .before .before .before .before .before .before .before .before .before .args .i) (K .long); workable = K .workable }
 
 -- src/lib.rt:241:13
 mul-q : tie.Need-mul-q
-mul-q c = ?
+mul-q c = let K = c .before .before .before .before .before .before .before .before .before .before .before .before .before .before .before .before .before .before .before .before .before .before .before .before .before .before .before .before .before .before .pre in let l = K .long in let m = K .most in omega arith
 
 -- src/lib.rt:242:9
 value-of-requires : tie.Need-value-of-requires
-value-of-requires c κs = ?
+value-of-requires c κs = let K = c .before .before .before .before .before .before .before .before .before .before .before .before .before .before .before .before .before .before .before .before .before .before .before .before .before .before .before .before .before .before .pre in rw (c .before .before .before .before .before .before .before .before .before .before .before .before .before .before .work-call .ensures .1 (K .call) (K .workable .heap) (turn-call (c .before .before .before .before .before .before .before .before .before .before .before .before .before .before .before .before .before .before .before .before .before .before .before .before .before .before .before .before .before .before .args .calls .now) (c .before .before .before .before .before .before .before .before .before .before .before .before .before .before .before .before .before .before .before .before .before .before .before .before .before .before .before .before .before .before .args .i) (K .long) _ (K .is)) (K .workable .standing) .status) (omega (arith, status-small (sizesOf (c .before .before .before .before .before .before .before .before .before .before .before .before .before .before .before .before .before .before .before .before .before .before .before .before .before .before .before .before .before .before .args .head)) (K .call) (K .workable .heap)))
 
 -- src/lib.rt:243:5
 mul-status : tie.Need-mul-status
-mul-status c = ?
+mul-status c = let K = c .before .before .before .before .before .before .before .before .before .before .before .before .before .before .before .before .before .before .before .before .before .before .before .before .before .before .before .before .before .before .before .pre in let l = K .long in let m = K .most in omega arith
 
 -- src/lib.rt:243:5
 slice-set-from-status : tie.Need-slice-set-from-status
-slice-set-from-status c = ?
+slice-set-from-status c = let K = c .before .before .before .before .before .before .before .before .before .before .before .before .before .before .before .before .before .before .before .before .before .before .before .before .before .before .before .before .before .before .before .pre in let l = K .long in let m = K .most in let r = K .room in omega arith
 
 -- src/lib.rt:245:13
 add-value : tie.Need-add-value
-add-value c = ?
+add-value c = let K = c .before .before .before .before .before .before .before .before .before .before .before .before .before .before .before .before .before .before .before .before .before .before .before .before .before .before .before .before .before .before .before .before .pre in let l = K .long in let m = K .most in omega arith
 
 -- src/lib.rt:245:5
 mul-value : tie.Need-mul-value
-mul-value c = ?
+mul-value c = let K = c .before .before .before .before .before .before .before .before .before .before .before .before .before .before .before .before .before .before .before .before .before .before .before .before .before .before .before .before .before .before .before .before .pre in let l = K .long in let m = K .most in omega arith
 
 -- src/lib.rt:245:5
 slice-set-from-value : tie.Need-slice-set-from-value
-slice-set-from-value c = ?
+slice-set-from-value c = let K = c .before .before .before .before .before .before .before .before .before .before .before .before .before .before .before .before .before .before .before .before .before .before .before .before .before .before .before .before .before .before .before .before .pre in let l = K .long in let m = K .most in let r = K .room in simp length-set (omega arith)
 
 -- src/lib.rt:208:1
 same-length : tie.Need-same-length
@@ -96,7 +105,18 @@ same-length-9 c = search needs
 
 -- src/lib.rt:208:1
 returns : tie.Need-returns
-returns c = ?
+returns c = (
+  c .before .before .before .before .before .before .before .before .before .before .before .before .before .before .before .before .before .work-call .ensures .0,
+  λ d h e S.
+      let A = c .before .before .before .before .before .before .before .before .before .before .before .before .before .before .before .before .before .work-call .ensures .1 d h (turn-call (c .before .before .before .before .before .before .before .before .before .before .before .before .before .before .before .before .before .before .before .before .before .before .before .before .before .before .before .before .before .before .before .before .before .args .calls .now) (c .before .before .before .before .before .before .before .before .before .before .before .before .before .before .before .before .before .before .before .before .before .before .before .before .before .before .before .before .before .before .before .before .before .args .i) (c .before .before .before .before .before .before .before .before .before .before .before .before .before .before .before .before .before .before .before .before .before .before .before .before .before .before .before .before .before .before .before .before .before .pre .long) _ e) S in
+      record { standing = A .standing; answers = two-set (c .before .before .before .before .before .before .before .before .before .before .before .before .before .before .before .before .before .before .before .before .before .before .before .before .before .before .before .before .before .before .before .before .before .args .answers .now) (2 * c .before .before .before .before .before .before .before .before .before .before .before .before .before .before .before .before .before .before .before .before .before .before .before .before .before .before .before .before .before .before .before .before .before .args .i) (status-is ∙ c .before .before .value-of .ensures ∙ ap pos (A .status)) (value-is ∙ A .value) },
+)
+  where
+    status-is : toZ w32 (ofZ w32 (c .before .before .value-of .result)) ≡ c .before .before .value-of .result
+    status-is = search needs
+
+    value-is : toZ w32 (ofZ w32 (c .before .before .before .before .before .before .before .before .before .before .before .before .before .before .before .before .before .work-call .result .value)) ≡ c .before .before .before .before .before .before .before .before .before .before .before .before .before .before .before .before .before .work-call .result .value
+    value-is = search needs
 
 pub work-turn-spec : {M : Type 1} → statement M
 work-turn-spec =

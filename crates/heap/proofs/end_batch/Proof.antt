@@ -1,0 +1,66 @@
+use borrow.Author.Needs.{needs}
+use Rattle.heap.proofs.end_batch.Statement.{statement}
+use Rattle.heap.proofs.end_batch.Tie as tie
+use Rattle.heap.proofs.end_batch.Reads as reads
+use Rattle.heap.proofs.end_batch.Lts as lts
+use Rattle.settle.proofs.settle.Reads as settle-reads
+
+-- src/lib.rt:311:15
+cast-cap : tie.Need-cast-cap
+cast-cap c = search needs
+
+-- src/lib.rt:312:9
+settle-requires : tie.Need-settle-requires
+settle-requires c κs = ?
+
+-- src/lib.rt:339:16
+add-t31 : tie.Need-add-t31
+add-t31 c = ?
+
+-- src/lib.rt:294:1
+same-length : tie.Need-same-length
+same-length c = search needs
+
+-- src/lib.rt:294:1
+same-length-2 : tie.Need-same-length-2
+same-length-2 c = search needs
+
+-- src/lib.rt:294:1
+same-length-3 : tie.Need-same-length-3
+same-length-3 c = search needs
+
+-- src/lib.rt:294:1
+same-length-4 : tie.Need-same-length-4
+same-length-4 c = search needs
+
+-- src/lib.rt:294:1
+same-length-5 : tie.Need-same-length-5
+same-length-5 c = search needs
+
+-- src/lib.rt:294:1
+same-length-6 : tie.Need-same-length-6
+same-length-6 c = search needs
+
+-- src/lib.rt:294:1
+same-length-7 : tie.Need-same-length-7
+same-length-7 c = search needs
+
+-- src/lib.rt:294:1
+returns : tie.Need-returns
+returns c = ?
+
+pub end-batch-spec : {M : Type 1} → statement M
+end-batch-spec =
+    tie.close
+    (tie.spec
+    cast-cap
+    settle-requires
+    add-t31
+    same-length
+    same-length-2
+    same-length-3
+    same-length-4
+    same-length-5
+    same-length-6
+    same-length-7
+    returns)
