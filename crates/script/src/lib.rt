@@ -1,0 +1,344 @@
+// The reading of a tally script: its lines, the fields of a line, numbers, and what a line says.
+use rules::Head;
+ghost use mathlib.Core.Path.{_≡_};
+ghost use mathlib.Core.List.{[]};
+ghost use Prim.Native.Nat.{ℕ, _+_, _≤_};
+ghost use lib.ListN.{length, getD, drop};
+ghost use lib.IntN.{pos};
+ghost use mathlib.Core.Bool.{_&&_};
+ghost use Rattle.rules.specs.Call.{callOf, isBelow};
+ghost use Rattle.script.specs.Text.{sameBytes, upTo, fieldsOf, lineEnd};
+ghost use Rattle.script.specs.Number.{digitsFrom, numberOf, plainOf, figureOf};
+ghost use Rattle.script.specs.Line.{operationOf, arity, wordOf, isCall, lineOf, headLineOf, asWord, capped};
+ghost use Rattle.script.specs.Place.{Starts};
+
+// A word of a call, or what is none.
+pub enum Word {
+    Number(i32),
+    Wrong,
+}
+
+// What a line says.
+pub enum Line {
+    Heap(usize, usize, usize, usize),
+    Call(i32, i32, i32, i32),
+    Batch,
+    Bad,
+}
+
+// Where the first b stands from a place on; the end where there is none.
+fn end_at(s: &[u8], at: usize, b: u8) -> usize
+    requires { ⌜ at ≤ length (now s) ⌝ }
+    ensures { λ r. ⌜ r ≡ at + length (upTo b (drop at (now (s .entry)))) ⌝ }
+{
+    let mut i = at;
+    while i < s.len() {
+        if s[i] == b {
+            return i;
+        }
+        i += 1;
+    }
+    i
+}
+
+// Where the line that starts at a place ends.
+pub fn line_end(text: &[u8], at: usize) -> usize
+    requires { ⌜ at ≤ length (now text) ⌝ }
+    ensures { λ r. ⌜ r ≡ lineEnd (now (text .entry)) at ⌝ }
+{
+    end_at(text, at, 10)
+}
+
+// Are the bytes the same?
+fn same(a: &[u8], b: &[u8]) -> bool
+    ensures { λ r. ⌜ r ≡ sameBytes (now (a .entry)) (now (b .entry)) ⌝ }
+{
+    if a.len() != b.len() {
+        return false;
+    }
+    let mut i = 0;
+    while i < a.len() {
+        if a[i] != b[i] {
+            return false;
+        }
+        i += 1;
+    }
+    true
+}
+
+// Where field k starts; the end where there is none.
+fn field_start(s: &[u8], k: usize) -> usize
+    ensures { λ r. ⌜ Starts (now (s .entry)) k r ⌝ }
+{
+    let mut more = k;
+    let mut i = 0;
+    while i < s.len() {
+        if more == 0 {
+            return i;
+        }
+        if s[i] == 9 {
+            more -= 1;
+        }
+        i += 1;
+    }
+    i
+}
+
+// Field k of a line; empty where there is none.
+pub fn field(s: &[u8], k: usize) -> &[u8]
+    ensures { λ r. ⌜ now r ≡ getD (fieldsOf (now (s .entry))) k [] ⌝ }
+{
+    let a = field_start(s, k);
+    let e = end_at(s, a, 9);
+    &s[a..e]
+}
+
+// How many fields a line has.
+pub fn fields(s: &[u8]) -> usize
+    ensures { λ r. ⌜ r ≡ length (fieldsOf (now (s .entry))) ⌝ }
+{
+    let mut n: usize = 1;
+    let mut i = 0;
+    while i < s.len() {
+        if s[i] == 9 {
+            n += 1;
+        }
+        i += 1;
+    }
+    n
+}
+
+// The number that digits are, as far as it counts.
+fn digits(s: &[u8]) -> usize
+    ensures { λ r. ⌜ r ≡ capped (digitsFrom 0 (now (s .entry))) ⌝ }
+{
+    let mut n: usize = 0;
+    let mut i = 0;
+    while i < s.len() {
+        let b = s[i];
+        if b < 48 {
+            return 2147483649;
+        }
+        if 57 < b {
+            return 2147483649;
+        }
+        n = n * 10 + ((b - 48) as usize);
+        if 2147483648 < n {
+            return 2147483649;
+        }
+        i += 1;
+    }
+    n
+}
+
+// A number in decimal, as far as it counts.
+pub fn number(s: &[u8]) -> usize
+    ensures { λ r. ⌜ r ≡ capped (numberOf (now (s .entry))) ⌝ }
+{
+    if s.len() == 0 {
+        return 2147483649;
+    }
+    if s.len() == 1 {
+        return digits(s);
+    }
+    if s[0] == 48 {
+        return 2147483649;
+    }
+    digits(s)
+}
+
+// A variable or a field, as a word of a call.
+pub fn plain(s: &[u8]) -> Word
+    ensures { λ r. ⌜ r ≡ asWord (plainOf (now (s .entry))) ⌝ }
+{
+    let n = number(s);
+    if n < 2147483648 {
+        Word::Number(n as i32)
+    } else {
+        Word::Wrong
+    }
+}
+
+// A figure, as a word of a call.
+pub fn figure(s: &[u8]) -> Word
+    ensures { λ r. ⌜ r ≡ asWord (figureOf (now (s .entry))) ⌝ }
+{
+    if s.len() == 0 {
+        return Word::Wrong;
+    }
+    if s[0] != 45 {
+        return plain(s);
+    }
+    let n = number(&s[1..]);
+    if n == 0 {
+        return Word::Wrong;
+    }
+    if 2147483648 < n {
+        return Word::Wrong;
+    }
+    Word::Number(-1 - ((n - 1) as i32))
+}
+
+// The number of an operation word, 11 for batch, 0 for any other.
+pub fn operation(s: &[u8]) -> usize
+    ensures { λ r. ⌜ r ≡ operationOf (now (s .entry)) ⌝ }
+{
+    if same(s, b"new") {
+        return 1;
+    }
+    if same(s, b"copy") {
+        return 2;
+    }
+    if same(s, b"clear") {
+        return 3;
+    }
+    if same(s, b"link") {
+        return 4;
+    }
+    if same(s, b"put") {
+        return 5;
+    }
+    if same(s, b"blank") {
+        return 6;
+    }
+    if same(s, b"follow") {
+        return 7;
+    }
+    if same(s, b"read") {
+        return 8;
+    }
+    if same(s, b"same") {
+        return 9;
+    }
+    if same(s, b"settle") {
+        return 10;
+    }
+    if same(s, b"batch") {
+        return 11;
+    }
+    0
+}
+
+// How many words an operation takes.
+fn words(op: usize) -> usize
+    ensures { λ r. ⌜ r ≡ arity op ⌝ }
+{
+    match op {
+        1 => 1,
+        2 => 2,
+        3 => 1,
+        4 => 3,
+        5 => 3,
+        6 => 2,
+        7 => 3,
+        8 => 2,
+        9 => 2,
+        _ => 0,
+    }
+}
+
+// Word i of an operation, from its line.
+fn word_at(line: &[u8], op: usize, i: usize) -> Word
+    ensures { λ r. ⌜ r ≡ asWord (wordOf op i (fieldsOf (now (line .entry)))) ⌝ }
+{
+    if words(op) < i {
+        return Word::Number(0);
+    }
+    if op != 5 {
+        return plain(field(line, i));
+    }
+    if i != 3 {
+        return plain(field(line, i));
+    }
+    figure(field(line, i))
+}
+
+// Is a word below a limit?
+fn below(x: i32, limit: usize) -> bool
+    ensures { λ r. ⌜ r ≡ isBelow limit x ⌝ }
+{
+    if x < 0 {
+        return false;
+    }
+    (x as usize) < limit
+}
+
+// Are three words below their limits?
+fn within(la: usize, a: i32, lb: usize, b: i32, lc: usize, c: i32) -> bool
+    ensures { λ r. ⌜ r ≡ (isBelow la a && isBelow lb b && isBelow lc c) ⌝ }
+{
+    if !below(a, la) {
+        return false;
+    }
+    if !below(b, lb) {
+        return false;
+    }
+    below(c, lc)
+}
+
+// Are four words a call?
+fn is_call(m: usize, op: usize, a: i32, b: i32, c: i32) -> bool
+    ensures { λ r. ⌜ r ≡ isCall (callOf m (pos op) a b c) ⌝ }
+{
+    match op {
+        1 | 3 => within(m, a, 1, b, 1, c),
+        2 | 9 => within(m, a, m, b, 1, c),
+        4 | 7 => within(m, a, 2, b, m, c),
+        5 => within(m, a, 2, b, 1, 0),
+        6 | 8 => within(m, a, 2, b, 1, c),
+        10 => within(1, a, 1, b, 1, c),
+        _ => false,
+    }
+}
+
+// What a line after the first says, over m variables.
+pub fn next_line(line: &[u8], m: usize) -> Line
+    ensures { λ r. ⌜ r ≡ lineOf m (now (line .entry)) ⌝ }
+{
+    if 80 < line.len() {
+        return Line::Bad;
+    }
+    let op = operation(field(line, 0));
+    if fields(line) != words(op) + 1 {
+        return Line::Bad;
+    }
+    if op == 11 {
+        return Line::Batch;
+    }
+    let Word::Number(a) = word_at(line, op, 1) else {
+        return Line::Bad;
+    };
+    let Word::Number(b) = word_at(line, op, 2) else {
+        return Line::Bad;
+    };
+    let Word::Number(c) = word_at(line, op, 3) else {
+        return Line::Bad;
+    };
+    if is_call(m, op, a, b, c) {
+        return Line::Call(op as i32, a, b, c);
+    }
+    Line::Bad
+}
+
+// What line 1 says.
+pub fn first_line(line: &[u8]) -> Line
+    ensures { λ r. ⌜ r ≡ headLineOf (now (line .entry)) ⌝ }
+{
+    if 80 < line.len() {
+        return Line::Bad;
+    }
+    if fields(line) != 5 {
+        return Line::Bad;
+    }
+    if !same(field(line, 0), b"heap") {
+        return Line::Bad;
+    }
+    let n = number(field(line, 1));
+    let m = number(field(line, 2));
+    let l = number(field(line, 3));
+    let cap = number(field(line, 4));
+    if Head::fresh(n, m, l, cap).within() {
+        return Line::Heap(n, m, l, cap);
+    }
+    Line::Bad
+}
