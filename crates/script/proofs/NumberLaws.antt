@@ -9,8 +9,9 @@ use native.Mathlib.Omega.{arith}
 use lib.Dec.{eqb, leb}
 use lib.ListN.{length, getD, drop, drop-of-length-le}
 use lib.Seq.{drop-cons}
-use borrow.Author.Tests.{eq-eqb, ne-eqb, le-leb, lt-leb}
-use Rattle.script.specs.Number.{isDigit, digitsFrom, numberOf}
+use lib.IntN.{ℤ, pos, negsuc}
+use borrow.Author.Tests.{eq-eqb, ne-eqb, le-leb, lt-leb, lt-ltb, le-ltb, leb-true, leb-false}
+use Rattle.script.specs.Number.{isDigit, digitsFrom, numberOf, within32, plain, minus, plainOf, figureOf}
 use Rattle.script.specs.Line.{capped}
 
 -- ---- digits
@@ -74,3 +75,63 @@ unfolding numberOf
 number-more [] h k e = absurd (h refl)
 number-more (b ∷ []) h k e = absurd (k refl)
 number-more (b ∷ d ∷ s) h k e = rw (ne-eqb b 48 e)
+
+-- ---- words
+
+pub plain-some : (o : Option ℕ) → capped o < 2147483648 → plain o ≡ some (pos (capped o))
+plain-some none h = absurd (omega arith)
+plain-some (some n) h = go (leb n 2147483648) h
+  where
+    go : (q : Bool) → cond q n 2147483649 < 2147483648 → within32 (pos n) ≡ some (pos (cond q n 2147483649))
+    go true k = rw (lt-ltb n 2147483648 k)
+    go false k = absurd (omega arith)
+
+pub plain-none : (o : Option ℕ) → 2147483648 ≤ capped o → plain o ≡ none
+plain-none none h = refl
+plain-none (some n) h = go (leb n 2147483648) refl h
+  where
+    go : (q : Bool) → leb n 2147483648 ≡ q → 2147483648 ≤ cond q n 2147483649 → within32 (pos n) ≡ none
+    go true e k = rw (le-ltb n 2147483648 k)
+    go false e k = let w = leb-false n 2147483648 e in rw (le-ltb n 2147483648 (omega arith))
+
+pub minus-zero : (o : Option ℕ) → capped o ≡ 0 → minus o ≡ none
+minus-zero none h = refl
+minus-zero (some zero) h = refl
+minus-zero (some (suc n)) h = absurd (go (leb (suc n) 2147483648) h)
+  where
+    go : (q : Bool) → cond q (suc n) 2147483649 ≡ 0 → ⊥
+    go true k = omega arith
+    go false k = omega arith
+
+pub minus-much : (o : Option ℕ) → 2147483648 < capped o → minus o ≡ none
+minus-much none h = refl
+minus-much (some zero) h = refl
+minus-much (some (suc n)) h = go (leb (suc n) 2147483648) refl h
+  where
+    go : (q : Bool) → leb (suc n) 2147483648 ≡ q → 2147483648 < cond q (suc n) 2147483649 → within32 (negsuc n) ≡ none
+    go true e k = let w = leb-true (suc n) 2147483648 e in absurd (omega arith)
+    go false e k = let w = leb-false (suc n) 2147483648 e in rw (le-ltb n 2147483648 (omega arith))
+
+pub minus-some : (o : Option ℕ) → (capped o ≡ 0 → ⊥) → capped o ≤ 2147483648 → minus o ≡ some (negsuc (capped o - 1))
+minus-some none h k = absurd (omega arith)
+minus-some (some zero) h k = absurd (h refl)
+minus-some (some (suc n)) h k = go (leb (suc n) 2147483648) k
+  where
+    go : (q : Bool) → cond q (suc n) 2147483649 ≤ 2147483648 → within32 (negsuc n) ≡ some (negsuc (cond q (suc n) 2147483649 - 1))
+    go true k = let e : suc n - 1 ≡ n = omega arith in rw (lt-ltb n 2147483648 (omega arith), e)
+    go false k = absurd (omega arith)
+
+pub figure-none : (s : List ℕ) → length s ≡ 0 → figureOf s ≡ none
+unfolding figureOf
+figure-none [] h = refl
+figure-none (b ∷ s) h = absurd (omega arith)
+
+pub figure-plain : (s : List ℕ) → (length s ≡ 0 → ⊥) → (getD s 0 0 ≡ 45 → ⊥) → figureOf s ≡ plainOf s
+unfolding figureOf
+figure-plain [] h e = absurd (h refl)
+figure-plain (b ∷ s) h e = rw (ne-eqb b 45 e)
+
+pub figure-minus : (s : List ℕ) → (length s ≡ 0 → ⊥) → getD s 0 0 ≡ 45 → figureOf s ≡ minus (numberOf (drop 1 s))
+unfolding figureOf
+figure-minus [] h e = absurd (h refl)
+figure-minus (b ∷ s) h e = rw (eq-eqb b 45 e)

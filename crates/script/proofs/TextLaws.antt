@@ -6,10 +6,12 @@ use mathlib.Core.List.{List, [], _∷_}
 use native.Mathlib.Numerals.{add-one}
 use native.Mathlib.Omega.{arith}
 use lib.Dec.{eqb}
-use lib.ListN.{length, getD, take, drop, drop-of-length-le}
+use native.Mathlib.Nat.{add-sub-cancel-left}
+use lib.ListN.{length, getD, take, drop, length-drop, drop-of-length-le}
 use lib.Seq.{drop-cons}
 use borrow.Author.Tests.{eq-eqb, ne-eqb}
 use Rattle.script.specs.Text.{sameBytes, upTo, moreFields, fieldsOf}
+use Rattle.script.specs.Place.{Starts}
 
 -- ---- up to a byte
 
@@ -97,3 +99,10 @@ field-end s i (suc left) h = rw (tab-end s i h, upTo-end 9 s i h)
 
 pub field-first : (s : List ℕ) (i left : ℕ) → left ≡ 0 → upTo 9 (drop i s) ≡ getD (fieldsOf (drop i s)) left []
 field-first s i left e = rw e
+
+-- the part from where a field starts to where it ends
+pub field-part : (s : List ℕ) (k a : ℕ) → Starts s k a → take (a + length (upTo 9 (drop a s)) - a) (drop a s) ≡ getD (fieldsOf s) k []
+field-part s k a h = rw (add-sub-cancel-left a (length (upTo 9 (drop a s))), upTo-take 9 (drop a s)) (h .field)
+
+pub end-inside : (b : ℕ) (s : List ℕ) (a : ℕ) → a ≤ length s → a + length (upTo b (drop a s)) ≤ length s
+end-inside b s a h = let e = upTo-most b (drop a s) in let d = length-drop a s in omega arith

@@ -9,7 +9,7 @@ ghost use mathlib.Core.Bool.{_&&_};
 ghost use Rattle.rules.specs.Call.{callOf, isBelow};
 ghost use Rattle.script.specs.Text.{sameBytes, upTo, fieldsOf, lineEnd};
 ghost use Rattle.script.specs.Number.{digitsFrom, numberOf, plainOf, figureOf};
-ghost use Rattle.script.specs.Line.{operationOf, arity, wordOf, isCall, lineOf, headLineOf, asWord, capped};
+ghost use Rattle.script.specs.Line.{operationOf, arity, wordOf, isCall, callLine, lineOf, heapLine, headLineOf, asWord, capped};
 ghost use Rattle.script.specs.Place.{Starts};
 
 // A word of a call, or what is none.
@@ -122,7 +122,7 @@ fn digits(s: &[u8]) -> usize
         if 57 < b {
             return 2147483649;
         }
-        n = n * 10 + ((b - 48) as usize);
+        n = n * 10 + (b as usize - 48);
         if 2147483648 < n {
             return 2147483649;
         }
@@ -219,22 +219,13 @@ pub fn operation(s: &[u8]) -> usize
     0
 }
 
-// How many words an operation takes.
+// How many words each operation takes.
+const WORDS: [usize; 12] = [0, 1, 2, 1, 3, 3, 2, 3, 2, 2, 0, 0];
+
 fn words(op: usize) -> usize
     ensures { λ r. ⌜ r ≡ arity op ⌝ }
 {
-    match op {
-        1 => 1,
-        2 => 2,
-        3 => 1,
-        4 => 3,
-        5 => 3,
-        6 => 2,
-        7 => 3,
-        8 => 2,
-        9 => 2,
-        _ => 0,
-    }
+    if op < 12 { WORDS[op] } else { 0 }
 }
 
 // Word i of an operation, from its line.
@@ -267,13 +258,13 @@ fn below(x: i32, limit: usize) -> bool
 fn within(la: usize, a: i32, lb: usize, b: i32, lc: usize, c: i32) -> bool
     ensures { λ r. ⌜ r ≡ (isBelow la a && isBelow lb b && isBelow lc c) ⌝ }
 {
-    if !below(a, la) {
+    if below(a, la) {
+        if below(b, lb) {
+            return below(c, lc);
+        }
         return false;
     }
-    if !below(b, lb) {
-        return false;
-    }
-    below(c, lc)
+    false
 }
 
 // Are four words a call?
@@ -291,20 +282,11 @@ fn is_call(m: usize, op: usize, a: i32, b: i32, c: i32) -> bool
     }
 }
 
-// What a line after the first says, over m variables.
-pub fn next_line(line: &[u8], m: usize) -> Line
-    ensures { λ r. ⌜ r ≡ lineOf m (now (line .entry)) ⌝ }
+// The call that a line of an operation says.
+fn call_line(line: &[u8], m: usize, op: usize) -> Line
+    requires { ⌜ op ≤ 12 ⌝ }
+    ensures { λ r. ⌜ r ≡ callLine m op (fieldsOf (now (line .entry))) ⌝ }
 {
-    if 80 < line.len() {
-        return Line::Bad;
-    }
-    let op = operation(field(line, 0));
-    if fields(line) != words(op) + 1 {
-        return Line::Bad;
-    }
-    if op == 11 {
-        return Line::Batch;
-    }
     let Word::Number(a) = word_at(line, op, 1) else {
         return Line::Bad;
     };
@@ -320,6 +302,38 @@ pub fn next_line(line: &[u8], m: usize) -> Line
     Line::Bad
 }
 
+// What a line after the first says, over m variables.
+pub fn next_line(line: &[u8], m: usize) -> Line
+    ensures { λ r. ⌜ r ≡ lineOf m (now (line .entry)) ⌝ }
+{
+    if 80 < line.len() {
+        return Line::Bad;
+    }
+    let op = operation(field(line, 0));
+    let more = fields(line) - 1;
+    if more != words(op) {
+        return Line::Bad;
+    }
+    if op == 11 {
+        return Line::Batch;
+    }
+    call_line(line, m, op)
+}
+
+// The heap that line 1 says, after its word.
+fn heap_line(line: &[u8]) -> Line
+    ensures { λ r. ⌜ r ≡ heapLine (fieldsOf (now (line .entry))) ⌝ }
+{
+    let n = number(field(line, 1));
+    let m = number(field(line, 2));
+    let l = number(field(line, 3));
+    let cap = number(field(line, 4));
+    if Head::fresh(n, m, l, cap).within() {
+        return Line::Heap(n, m, l, cap);
+    }
+    Line::Bad
+}
+
 // What line 1 says.
 pub fn first_line(line: &[u8]) -> Line
     ensures { λ r. ⌜ r ≡ headLineOf (now (line .entry)) ⌝ }
@@ -330,15 +344,8 @@ pub fn first_line(line: &[u8]) -> Line
     if fields(line) != 5 {
         return Line::Bad;
     }
-    if !same(field(line, 0), b"heap") {
-        return Line::Bad;
-    }
-    let n = number(field(line, 1));
-    let m = number(field(line, 2));
-    let l = number(field(line, 3));
-    let cap = number(field(line, 4));
-    if Head::fresh(n, m, l, cap).within() {
-        return Line::Heap(n, m, l, cap);
+    if same(field(line, 0), b"heap") {
+        return heap_line(line);
     }
     Line::Bad
 }

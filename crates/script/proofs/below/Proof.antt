@@ -1,19 +1,21 @@
+use borrow.Author.Needs.{needs}
+use native.Mathlib.Omega.{arith}
+use Prim.Native.Nat.{ℕ, zero, suc, _+_, _*_, _-_, _≤_, _<_}
+use mathlib.Core.Path.{_≡_, refl, sym, ap, _∙_}
+use lib.ListN.{length, getD, drop}
+use mir.Facts.{toZ-ofZ}
+use Rattle.script.proofs.WordLaws.{below-minus, below-plain, plain-fits}
 use Rattle.script.proofs.below.Statement.{statement}
 use Rattle.script.proofs.below.Tie as tie
-use Rattle.script.proofs.below.Reads as reads
-use Rattle.script.proofs.below.Lts as lts
 
--- src/lib.rt:255:9
 returns : tie.Need-returns
-returns c = ?
+returns c = below-minus (c .before .args .limit) (c .before .args .x) (simp (toZ-ofZ (c .before .fits .x)) at (c .if1 .taken))
 
--- src/lib.rt:257:6
 cast-result : tie.Need-cast-result
-cast-result c = ?
+cast-result c = simp (toZ-ofZ (c .before .fits .x)) (plain-fits (c .before .args .x) (c .before .fits .x) (simp (toZ-ofZ (c .before .fits .x)) at (c .if1 .left)))
 
--- src/lib.rt:251:1
 returns-2 : tie.Need-returns-2
-returns-2 c = ?
+returns-2 c = simp (toZ-ofZ (c .before .fits .x)) (below-plain (c .before .args .limit) (c .before .args .x) (simp (toZ-ofZ (c .before .fits .x)) at (c .if1 .left)))
 
 pub below-spec : {M : Type 1} → statement M
 below-spec = tie.close (tie.spec returns cast-result returns-2)

@@ -1,34 +1,35 @@
 use borrow.Author.Needs.{needs}
+use native.Mathlib.Omega.{arith}
+use Prim.Native.Nat.{ℕ, zero, suc, _+_, _*_, _-_, _≤_, _<_}
+use mathlib.Core.Path.{_≡_, refl, sym, ap, _∙_}
+use lib.ListN.{length, getD, drop}
+use Rattle.script.proofs.TextLaws.{field-part, end-inside}
 use Rattle.script.proofs.field.Statement.{statement}
 use Rattle.script.proofs.field.Tie as tie
-use Rattle.script.proofs.field.Reads as reads
-use Rattle.script.proofs.field.Lts as lts
-use Rattle.script.proofs.end_at.Reads as end-at-reads
-use Rattle.script.proofs.field_start.Reads as field-start-reads
 
--- src/lib.rt:91:9
 field-start-requires : tie.Need-field-start-requires
 field-start-requires c κs = search needs
 
--- src/lib.rt:92:9
 end-at-requires : tie.Need-end-at-requires
 end-at-requires c κs = search needs
 
--- src/lib.rt:93:5
 sub-result : tie.Need-sub-result
 sub-result c = search needs
 
--- src/lib.rt:93:5
 part-result-start : tie.Need-part-result-start
 part-result-start c = search needs
 
--- src/lib.rt:93:5
 part-result-end : tie.Need-part-result-end
-part-result-end c = ?
+part-result-end c =
+    let a = c .before .before .before .args .s .now in
+    let g = c .before .field-start .ensures in
+    let e = end-inside 9 a (c .before .field-start .result) (g .inside) in
+    omega (arith, c .end-at .ensures)
 
--- src/lib.rt:88:1
 returns : tie.Need-returns
-returns c = ?
+returns c =
+    let a = c .before .before .before .before .args in
+    rw (c .before .end-at .ensures) (field-part (a .s .now) (a .k) (c .before .before .field-start .result) (c .before .before .field-start .ensures))
 
 pub field-spec : {M : Type 1} → statement M
 field-spec =

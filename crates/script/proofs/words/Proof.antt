@@ -1,59 +1,27 @@
+use borrow.Author.Needs.{needs}
+use native.Mathlib.Omega.{arith}
+use Prim.Native.Nat.{ℕ, zero, suc, _+_, _*_, _-_, _≤_, _<_}
+use mathlib.Core.Path.{_≡_, refl, sym, ap, _∙_}
+use lib.ListN.{length, getD, drop}
+use lib.ListN.{List·getD-eq-default}
+use mathlib.Core.List.{List, [], _∷_}
+use Rattle.script.specs.Line.{arity}
 use Rattle.script.proofs.words.Statement.{statement}
 use Rattle.script.proofs.words.Tie as tie
-use Rattle.script.proofs.words.Reads as reads
-use Rattle.script.proofs.words.Lts as lts
 
--- src/lib.rt:217:1
+mul-result : tie.Need-mul-result
+mul-result c = search needs
+
+array-read-result : tie.Need-array-read-result
+array-read-result c = search needs
+
 returns : tie.Need-returns
-returns c = ?
+unfolding arity
+returns c = refl
 
--- src/lib.rt:217:1
 returns-2 : tie.Need-returns-2
-returns-2 c = ?
-
--- src/lib.rt:217:1
-returns-3 : tie.Need-returns-3
-returns-3 c = ?
-
--- src/lib.rt:217:1
-returns-4 : tie.Need-returns-4
-returns-4 c = ?
-
--- src/lib.rt:217:1
-returns-5 : tie.Need-returns-5
-returns-5 c = ?
-
--- src/lib.rt:217:1
-returns-6 : tie.Need-returns-6
-returns-6 c = ?
-
--- src/lib.rt:217:1
-returns-7 : tie.Need-returns-7
-returns-7 c = ?
-
--- src/lib.rt:217:1
-returns-8 : tie.Need-returns-8
-returns-8 c = ?
-
--- src/lib.rt:217:1
-returns-9 : tie.Need-returns-9
-returns-9 c = ?
-
--- src/lib.rt:217:1
-returns-10 : tie.Need-returns-10
-returns-10 c = ?
+unfolding arity
+returns-2 c = sym (List·getD-eq-default (0 ∷ 1 ∷ 2 ∷ 1 ∷ 3 ∷ 3 ∷ 2 ∷ 3 ∷ 2 ∷ 2 ∷ 0 ∷ 0 ∷ []) 0 (c .if1 .left))
 
 pub words-spec : {M : Type 1} → statement M
-words-spec =
-    tie.close
-    (tie.spec
-    returns
-    returns-2
-    returns-3
-    returns-4
-    returns-5
-    returns-6
-    returns-7
-    returns-8
-    returns-9
-    returns-10)
+words-spec = tie.close (tie.spec mul-result array-read-result returns returns-2)

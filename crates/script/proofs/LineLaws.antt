@@ -1,0 +1,162 @@
+-- Laws of a line: by its length, its word and its fields. Assumes nothing.
+use Prim.Native.Nat.{ℕ, zero, suc, _+_, _-_, _≤_, _<_}
+use mathlib.Core.Path.{_≡_, refl, sym, ap, _∙_}
+use mathlib.Core.Bool.{Bool, true, false, cond, _&&_}
+use mathlib.Core.Option.{Option, none, some}
+use mathlib.Core.List.{List, [], _∷_}
+use native.Mathlib.Omega.{arith}
+use lib.Dec.{eqb, leb}
+use lib.ListN.{length, getD}
+use lib.IntN.{ℤ, pos, negsuc}
+use borrow.Author.Tests.{eq-eqb, ne-eqb, le-leb, lt-leb, leb-false}
+use Rattle.rules.specs.Call.{callOf}
+use Rattle.rules.specs.declared.Call.{Call}
+use Rattle.rules.specs.Head.{Limits, Says, freshHead}
+use Rattle.script.specs.declared.Line.{Line}
+use Rattle.script.specs.declared.Line.the-variants as L
+use Rattle.script.specs.declared.Word.{Word}
+use Rattle.script.specs.declared.Word.the-variants.{Number, Wrong}
+use Rattle.script.specs.Text.{bytes, sameBytes, moreFields, fieldsOf}
+use Rattle.script.specs.Number.{numberOf, plainOf, figureOf}
+use Rattle.script.specs.Line.{wordIn, operations, operationOf, arity, wordOf, callIf, callWith, callLine, operationLine, lineOf, isFine, isFine-says, onNumber, heapLine, headLineOf, asWord, capped, isCall}
+
+-- ---- the words of an operation
+
+pub word-nought : (k i : ℕ) (fs : List (List ℕ)) → arity k < i → wordOf k i fs ≡ some (pos 0)
+unfolding wordOf
+word-nought k i fs h = rw (lt-leb i (arity k) h)
+
+pub word-plain : (k i : ℕ) (fs : List (List ℕ)) → i ≤ arity k → (k ≡ 5 → ⊥) → wordOf k i fs ≡ plainOf (getD fs i [])
+unfolding wordOf
+word-plain k i fs h d = rw (le-leb i (arity k) h, ne-eqb k 5 d)
+
+pub word-plain-2 : (k i : ℕ) (fs : List (List ℕ)) → i ≤ arity k → k ≡ 5 → (i ≡ 3 → ⊥) → wordOf k i fs ≡ plainOf (getD fs i [])
+unfolding wordOf
+word-plain-2 k i fs h e d = rw (le-leb i (arity k) h, eq-eqb k 5 e, ne-eqb i 3 d)
+
+pub word-figure : (k i : ℕ) (fs : List (List ℕ)) → i ≤ arity k → k ≡ 5 → i ≡ 3 → wordOf k i fs ≡ figureOf (getD fs i [])
+unfolding wordOf
+word-figure k i fs h e d = rw (le-leb i (arity k) h, eq-eqb k 5 e, eq-eqb i 3 d)
+
+wordIn-most : (k : ℕ) (ws : List (List ℕ)) (bs : List ℕ) → wordIn k ws bs ≤ k + length ws
+unfolding wordIn
+wordIn-most k [] bs = omega arith
+wordIn-most k (w ∷ ws) bs = go (sameBytes bs w) (wordIn-most (suc k) ws bs)
+  where
+    go : (q : Bool) → wordIn (suc k) ws bs ≤ suc k + length ws → cond q k (wordIn (suc k) ws bs) ≤ k + suc (length ws)
+    go true h = omega arith
+    go false h = omega arith
+
+pub operation-most : (bs : List ℕ) → operationOf bs ≤ 12
+operation-most bs = wordIn-most 1 operations bs
+
+-- ---- a call's line
+
+pub word-some : (o : Option ℤ) (x : ℤ) → asWord o ≡ Number x → o ≡ some x
+word-some none x h = absurd (let z : _≡_ {A = ℕ} 0 1 = cc in omega arith)
+word-some (some y) x h = cc
+
+pub word-none : (o : Option ℤ) → asWord o ≡ Wrong → o ≡ none
+word-none none h = refl
+word-none (some y) h = absurd (let z : _≡_ {A = ℕ} 0 1 = cc in omega arith)
+
+-- what a call's line is, from its words
+pub call-first : (m : ℕ) (op : ℤ) (b c : Option ℤ) → callWith m op none b c ≡ L.Bad
+unfolding callWith
+call-first m op b c = refl
+
+pub call-second : (m : ℕ) (op a : ℤ) (c : Option ℤ) → callWith m op (some a) none c ≡ L.Bad
+unfolding callWith
+call-second m op a c = refl
+
+pub call-third : (m : ℕ) (op a b : ℤ) → callWith m op (some a) (some b) none ≡ L.Bad
+unfolding callWith
+call-third m op a b = refl
+
+pub call-whole : (m : ℕ) (op a b c : ℤ) → callWith m op (some a) (some b) (some c) ≡ cond (isCall (callOf m op a b c)) (L.Call op a b c) L.Bad
+unfolding callWith
+call-whole m op a b c = go (callOf m op a b c)
+  where
+    go : (o : Option Call) → callIf o (L.Call op a b c) ≡ cond (isCall o) (L.Call op a b c) L.Bad
+    go none = refl
+    go (some x) = refl
+
+-- ---- a line after the first
+
+module _ (m : ℕ) (bs : List ℕ) where
+  pub line-long : 80 < length bs → lineOf m bs ≡ L.Bad
+  unfolding lineOf
+  line-long h = rw (lt-leb (length bs) 80 h)
+
+  module _ (op : ℕ) (short : length bs ≤ 80) (is : op ≡ operationOf (getD (fieldsOf bs) 0 [])) where
+    line-short : lineOf m bs ≡ operationLine m op (fieldsOf bs)
+    unfolding lineOf
+    line-short = rw (le-leb (length bs) 80 short, is)
+
+    pub line-other : (length (moreFields bs) ≡ arity op → ⊥) → lineOf m bs ≡ L.Bad
+    unfolding operationLine
+    line-other d = line-short ∙ rw (ne-eqb (suc (length (moreFields bs))) (arity op + 1) (λ e. d (omega arith)))
+
+    module _ (full : length (moreFields bs) ≡ arity op) where
+      pub line-batch : op ≡ 11 → lineOf m bs ≡ L.Batch
+      unfolding operationLine
+      line-batch e = line-short ∙ rw (eq-eqb (suc (length (moreFields bs))) (arity op + 1) (omega arith), eq-eqb op 11 e)
+
+      pub line-call : (op ≡ 11 → ⊥) → lineOf m bs ≡ callLine m op (fieldsOf bs)
+      unfolding operationLine
+      line-call d = line-short ∙ rw (eq-eqb (suc (length (moreFields bs))) (arity op + 1) (omega arith), ne-eqb op 11 d)
+
+-- ---- line 1
+
+module _ (bs : List ℕ) where
+  pub head-long : 80 < length bs → headLineOf bs ≡ L.Bad
+  unfolding headLineOf
+  head-long h = rw (lt-leb (length bs) 80 h)
+
+  pub head-other : length bs ≤ 80 → (length (fieldsOf bs) ≡ 5 → ⊥) → headLineOf bs ≡ L.Bad
+  unfolding headLineOf
+  head-other h d = rw (le-leb (length bs) 80 h, ne-eqb (suc (length (moreFields bs))) 5 d)
+
+  pub head-word : (q : Bool) → length bs ≤ 80 → length (fieldsOf bs) ≡ 5 → sameBytes (getD (fieldsOf bs) 0 []) (bytes "heap") ≡ q → headLineOf bs ≡ cond q (heapLine (fieldsOf bs)) L.Bad
+  unfolding headLineOf
+  head-word q h e w = rw (le-leb (length bs) 80 h, eq-eqb (suc (length (moreFields bs))) 5 e, w)
+
+-- a number that is bad when it is too large may be taken capped
+on-capped : (o : Option ℕ) (f : ℕ → Line) → ((n : ℕ) → 2147483648 < n → f n ≡ L.Bad) → onNumber o f ≡ f (capped o)
+on-capped none f h = sym (h 2147483649 (omega arith))
+on-capped (some n) f h = go (leb n 2147483648) refl
+  where
+    go : (q : Bool) → leb n 2147483648 ≡ q → f n ≡ f (cond q n 2147483649)
+    go true e = refl
+    go false e = h n (leb-false n 2147483648 e) ∙ sym (h 2147483649 (omega arith))
+
+on-bad : (o : Option ℕ) (f : ℕ → Line) → ((n : ℕ) → f n ≡ L.Bad) → onNumber o f ≡ L.Bad
+on-bad none f h = refl
+on-bad (some n) f h = h n
+
+-- two tests of the same thing answer the same
+says-same : (r q : Bool) (P : Type 0) → Says r P → Says q P → r ≡ q
+says-same true true P h k = refl
+says-same true false P h k = absurd (k .no refl (h .yes refl))
+says-same false true P h k = absurd (h .no refl (k .yes refl))
+says-same false false P h k = refl
+
+-- numbers beyond the limits
+fine-not : (n m l cap : ℕ) → (Limits (freshHead n m l cap) → ⊥) → cond (isFine n m l cap) (L.Heap n m l cap) L.Bad ≡ L.Bad
+fine-not n m l cap d = go (isFine n m l cap) refl
+  where
+    go : (q : Bool) → isFine n m l cap ≡ q → cond q (L.Heap n m l cap) L.Bad ≡ L.Bad
+    go true e = absurd (d (isFine-says n m l cap .yes e))
+    go false e = refl
+
+pub heap-says : (fs : List (List ℕ)) (n m l cap : ℕ) (r : Bool) → n ≡ capped (numberOf (getD fs 1 [])) → m ≡ capped (numberOf (getD fs 2 [])) → l ≡ capped (numberOf (getD fs 3 [])) → cap ≡ capped (numberOf (getD fs 4 [])) → Says r (Limits (freshHead n m l cap)) → heapLine fs ≡ cond r (L.Heap n m l cap) L.Bad
+unfolding heapLine
+heap-says fs n m l cap r en em el ec s =
+    let N = capped (numberOf (getD fs 1 [])) in
+    let M = capped (numberOf (getD fs 2 [])) in
+    let E = capped (numberOf (getD fs 3 [])) in
+    on-capped _ _ (λ a h. on-bad _ _ (λ b. on-bad _ _ (λ x. on-bad _ _ (λ y. fine-not a b x y (λ z. let w = z .n-most in omega arith)))))
+    ∙ on-capped _ _ (λ b h. on-bad _ _ (λ x. on-bad _ _ (λ y. fine-not N b x y (λ z. let w = z .m-most in omega arith))))
+    ∙ on-capped _ _ (λ x h. on-bad _ _ (λ y. fine-not N M x y (λ z. let w = z .l-most in omega arith)))
+    ∙ on-capped _ _ (λ y h. fine-not N M E y (λ z. let w = z .cap-most in omega arith))
+    ∙ rw (← en, ← em, ← el, ← ec, says-same (isFine n m l cap) r (Limits (freshHead n m l cap)) (isFine-says n m l cap) s)
