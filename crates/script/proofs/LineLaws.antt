@@ -61,25 +61,35 @@ word-none none h = refl
 word-none (some y) h = absurd (let z : _≡_ {A = ℕ} 0 1 = cc in omega arith)
 
 -- what a call's line is, from its words
-pub call-first : (m : ℕ) (op : ℤ) (b c : Option ℤ) → callWith m op none b c ≡ L.Bad
-unfolding callWith
-call-first m op b c = refl
+module _ (m : ℕ) (op : ℤ) (o₁ o₂ o₃ : Option ℤ) where
+  pub no-first : asWord o₁ ≡ Wrong → L.Bad ≡ callWith m op o₁ o₂ o₃
+  unfolding callWith
+  no-first e = rw (word-none o₁ e)
 
-pub call-second : (m : ℕ) (op a : ℤ) (c : Option ℤ) → callWith m op (some a) none c ≡ L.Bad
-unfolding callWith
-call-second m op a c = refl
+  pub no-second : (a : ℤ) → asWord o₁ ≡ Number a → asWord o₂ ≡ Wrong → L.Bad ≡ callWith m op o₁ o₂ o₃
+  unfolding callWith
+  no-second a d e = rw (word-some o₁ a d, word-none o₂ e)
 
-pub call-third : (m : ℕ) (op a b : ℤ) → callWith m op (some a) (some b) none ≡ L.Bad
-unfolding callWith
-call-third m op a b = refl
+  pub no-third : (a b : ℤ) → asWord o₁ ≡ Number a → asWord o₂ ≡ Number b → asWord o₃ ≡ Wrong → L.Bad ≡ callWith m op o₁ o₂ o₃
+  unfolding callWith
+  no-third a b c d e = rw (word-some o₁ a c, word-some o₂ b d, word-none o₃ e)
 
-pub call-whole : (m : ℕ) (op a b c : ℤ) → callWith m op (some a) (some b) (some c) ≡ cond (isCall (callOf m op a b c)) (L.Call op a b c) L.Bad
-unfolding callWith
-call-whole m op a b c = go (callOf m op a b c)
-  where
-    go : (o : Option Call) → callIf o (L.Call op a b c) ≡ cond (isCall o) (L.Call op a b c) L.Bad
-    go none = refl
-    go (some x) = refl
+  module _ (a b c : ℤ) (ea : asWord o₁ ≡ Number a) (eb : asWord o₂ ≡ Number b) (ec : asWord o₃ ≡ Number c) where
+    pub call-yes : true ≡ isCall (callOf m op a b c) → L.Call op a b c ≡ callWith m op o₁ o₂ o₃
+    unfolding callWith
+    call-yes e = rw (word-some o₁ a ea, word-some o₂ b eb, word-some o₃ c ec) (go (callOf m op a b c) e)
+      where
+        go : (o : Option Call) → true ≡ isCall o → L.Call op a b c ≡ callIf o (L.Call op a b c)
+        go none h = absurd (let z : _≡_ {A = ℕ} 0 1 = cc in omega arith)
+        go (some x) h = refl
+
+    pub call-no : false ≡ isCall (callOf m op a b c) → L.Bad ≡ callWith m op o₁ o₂ o₃
+    unfolding callWith
+    call-no e = rw (word-some o₁ a ea, word-some o₂ b eb, word-some o₃ c ec) (go (callOf m op a b c) e)
+      where
+        go : (o : Option Call) → false ≡ isCall o → L.Bad ≡ callIf o (L.Call op a b c)
+        go none h = refl
+        go (some x) h = absurd (let z : _≡_ {A = ℕ} 0 1 = cc in omega arith)
 
 -- ---- a line after the first
 
@@ -149,14 +159,46 @@ fine-not n m l cap d = go (isFine n m l cap) refl
     go true e = absurd (d (isFine-says n m l cap .yes e))
     go false e = refl
 
+heap-last : (n m l cap N M E C : ℕ) (r : Bool) → n ≡ N → m ≡ M → l ≡ E → cap ≡ C → Says r (Limits (freshHead n m l cap)) → cond (isFine N M E C) (L.Heap N M E C) L.Bad ≡ cond r (L.Heap n m l cap) L.Bad
+heap-last n m l cap N M E C r en em el ec s =
+    rw (← en, ← em, ← el, ← ec, says-same (isFine n m l cap) r (Limits (freshHead n m l cap)) (isFine-says n m l cap) s)
+
+abbrev with-four : ℕ → ℕ → ℕ → ℕ → Line
+with-four n m l c = cond (isFine n m l c) (L.Heap n m l c) L.Bad
+
+abbrev with-three : ℕ → ℕ → ℕ → Option ℕ → Line
+with-three n m l o = onNumber o (λ c. with-four n m l c)
+
+abbrev with-two : ℕ → ℕ → Option ℕ → Option ℕ → Line
+with-two n m o₃ o = onNumber o₃ (λ l. with-three n m l o)
+
+abbrev with-one : ℕ → Option ℕ → Option ℕ → Option ℕ → Line
+with-one n o₂ o₃ o = onNumber o₂ (λ m. with-two n m o₃ o)
+
+not-three : (n m l : ℕ) (o : Option ℕ) → ((c : ℕ) → Limits (freshHead n m l c) → ⊥) → with-three n m l o ≡ L.Bad
+not-three n m l o d = on-bad o (λ c. with-four n m l c) (λ c. fine-not n m l c (d c))
+
+not-two : (n m : ℕ) (o₃ o : Option ℕ) → ((l c : ℕ) → Limits (freshHead n m l c) → ⊥) → with-two n m o₃ o ≡ L.Bad
+not-two n m o₃ o d = on-bad o₃ (λ l. with-three n m l o) (λ l. not-three n m l o (d l))
+
+not-one : (n : ℕ) (o₂ o₃ o : Option ℕ) → ((m l c : ℕ) → Limits (freshHead n m l c) → ⊥) → with-one n o₂ o₃ o ≡ L.Bad
+not-one n o₂ o₃ o d = on-bad o₂ (λ m. with-two n m o₃ o) (λ m. not-two n m o₃ o (d m))
+
+four-capped : (o₁ o₂ o₃ o₄ : Option ℕ) → onNumber o₁ (λ n. with-one n o₂ o₃ o₄) ≡ with-four (capped o₁) (capped o₂) (capped o₃) (capped o₄)
+four-capped o₁ o₂ o₃ o₄ =
+    let N = capped o₁ in
+    let M = capped o₂ in
+    let E = capped o₃ in
+    on-capped o₁ (λ n. with-one n o₂ o₃ o₄) (λ n h. not-one n o₂ o₃ o₄ (λ m l c z. let w = z .n-most in omega arith))
+    ∙ on-capped o₂ (λ m. with-two N m o₃ o₄) (λ m h. not-two N m o₃ o₄ (λ l c z. let w = z .m-most in omega arith))
+    ∙ on-capped o₃ (λ l. with-three N M l o₄) (λ l h. not-three N M l o₄ (λ c z. let w = z .l-most in omega arith))
+    ∙ on-capped o₄ (λ c. with-four N M E c) (λ c h. fine-not N M E c (λ z. let w = z .cap-most in omega arith))
+
 pub heap-says : (fs : List (List ℕ)) (n m l cap : ℕ) (r : Bool) → n ≡ capped (numberOf (getD fs 1 [])) → m ≡ capped (numberOf (getD fs 2 [])) → l ≡ capped (numberOf (getD fs 3 [])) → cap ≡ capped (numberOf (getD fs 4 [])) → Says r (Limits (freshHead n m l cap)) → heapLine fs ≡ cond r (L.Heap n m l cap) L.Bad
 unfolding heapLine
 heap-says fs n m l cap r en em el ec s =
-    let N = capped (numberOf (getD fs 1 [])) in
-    let M = capped (numberOf (getD fs 2 [])) in
-    let E = capped (numberOf (getD fs 3 [])) in
-    on-capped _ _ (λ a h. on-bad _ _ (λ b. on-bad _ _ (λ x. on-bad _ _ (λ y. fine-not a b x y (λ z. let w = z .n-most in omega arith)))))
-    ∙ on-capped _ _ (λ b h. on-bad _ _ (λ x. on-bad _ _ (λ y. fine-not N b x y (λ z. let w = z .m-most in omega arith))))
-    ∙ on-capped _ _ (λ x h. on-bad _ _ (λ y. fine-not N M x y (λ z. let w = z .l-most in omega arith)))
-    ∙ on-capped _ _ (λ y h. fine-not N M E y (λ z. let w = z .cap-most in omega arith))
-    ∙ rw (← en, ← em, ← el, ← ec, says-same (isFine n m l cap) r (Limits (freshHead n m l cap)) (isFine-says n m l cap) s)
+    let o₁ = numberOf (getD fs 1 []) in
+    let o₂ = numberOf (getD fs 2 []) in
+    let o₃ = numberOf (getD fs 3 []) in
+    let o₄ = numberOf (getD fs 4 []) in
+    four-capped o₁ o₂ o₃ o₄ ∙ heap-last n m l cap (capped o₁) (capped o₂) (capped o₃) (capped o₄) r en em el ec s

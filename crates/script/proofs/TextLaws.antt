@@ -8,7 +8,7 @@ use native.Mathlib.Omega.{arith}
 use lib.Dec.{eqb}
 use native.Mathlib.Nat.{add-sub-cancel-left}
 use lib.ListN.{length, getD, take, drop, length-drop, drop-of-length-le}
-use lib.Seq.{drop-cons}
+use lib.Seq.{drop-cons, take-all}
 use borrow.Author.Tests.{eq-eqb, ne-eqb}
 use Rattle.script.specs.Text.{sameBytes, upTo, moreFields, fieldsOf}
 use Rattle.script.specs.Place.{Starts}
@@ -106,3 +106,7 @@ field-part s k a h = rw (add-sub-cancel-left a (length (upTo 9 (drop a s))), upT
 
 pub end-inside : (b : ℕ) (s : List ℕ) (a : ℕ) → a ≤ length s → a + length (upTo b (drop a s)) ≤ length s
 end-inside b s a h = let e = upTo-most b (drop a s) in let d = length-drop a s in omega arith
+
+-- all after the first byte
+pub rest-part : (s : List ℕ) → take (length s - 1) (drop 1 s) ≡ drop 1 s
+rest-part s = take-all (length s - 1) (drop 1 s) (omega (arith, length-drop 1 s))

@@ -8,10 +8,11 @@ use mathlib.Core.List.{List, [], _∷_}
 use native.Mathlib.Omega.{arith}
 use lib.Dec.{T, eqb, ltb}
 use borrow.Author.Tests.{ltb-true, lt-ltb, le-ltb, eq-eqb, ne-eqb}
-use lib.IntN.{ℤ, pos, negsuc, natAbs}
+use lib.IntN.{ℤ, pos, negsuc, natAbs, _-ℤ_}
 use lib.Signed.{ltZ, nonNeg, mag}
 use mir.Syntax.{w32, w64}
-use mir.Val.{SFits, Fits}
+use mir.Val.{SFits, Fits, toZ, ofZ}
+use mir.Facts.{toZ-ofZ, toZ-pos}
 use types.Run.{OneOf}
 use Rattle.rules.specs.declared.Call.{Call}
 use Rattle.rules.specs.Call.{callOf, given, isBelow, isNought, isSigned32}
@@ -30,6 +31,18 @@ below-plain m (negsuc n) h = let q : _≡_ {A = ℕ} 1 0 = cc in absurd (omega a
 pub plain-fits : (x : ℤ) → SFits w32 x → ltZ x (pos 0) ≡ false → T (nonNeg x) × Fits w64 (natAbs x)
 plain-fits (pos n) f h = (tt, let g : n < 2 ^ 31 = f .sfits in omega arith)
 plain-fits (negsuc n) f h = let q : _≡_ {A = ℕ} 1 0 = cc in absurd (omega arith)
+
+-- ---- a number after a minus
+
+less-one : (k : ℕ) → negsuc 0 -ℤ pos k ≡ negsuc k
+less-one zero = refl
+less-one (suc k) = ap negsuc (omega arith)
+
+pub minus-fits : (k : ℕ) → k < 2147483648 → SFits w32 (negsuc 0 -ℤ toZ w32 k)
+minus-fits k h = rw (toZ-pos w32 {n = k} h, less-one k) (record { sfits = h })
+
+pub minus-is : (k : ℕ) → k < 2147483648 → toZ w32 (ofZ w32 (negsuc 0 -ℤ toZ w32 k)) ≡ negsuc k
+minus-is k h = toZ-ofZ (minus-fits k h) ∙ rw (toZ-pos w32 {n = k} h) (less-one k)
 
 -- ---- tests
 

@@ -10,9 +10,9 @@ use Rattle.script.specs.declared.Word.the-variants.{Number, Wrong}
 use Rattle.script.specs.Number.{numberOf, plainOf, figureOf}
 use Rattle.script.specs.Line.{asWord, capped}
 use mathlib.Core.List.{List}
-use lib.Seq.{take-all}
-use lib.ListN.{take, length-drop}
+use Rattle.script.proofs.TextLaws.{rest-part}
 use Rattle.script.proofs.NumberLaws.{minus-zero, minus-much, minus-some, figure-none, figure-plain, figure-minus}
+use Rattle.script.proofs.WordLaws.{minus-fits, minus-is}
 use Rattle.script.proofs.figure.Statement.{statement}
 use Rattle.script.proofs.figure.Tie as tie
 
@@ -43,14 +43,18 @@ number-requires c κs = search needs
 returns-3 : tie.Need-returns-3
 returns-3 c =
     let s = c .before .before .before .before .before .before .before .args .s .now in
-    let e = c .before .number .ensures in
-    ?
+    let o = numberOf (drop 1 s) in
+    let e = c .before .number .ensures ∙ ap (λ (l : List ℕ). capped (numberOf l)) (rest-part s) in
+    let m = figure-minus s (c .before .before .before .before .before .if1 .left) (c .before .before .before .if2 .left) in
+    sym (ap asWord (m ∙ minus-zero o (sym e ∙ c .if3 .taken)))
 
 returns-4 : tie.Need-returns-4
 returns-4 c =
     let s = c .before .before .before .before .before .before .before .before .args .s .now in
-    let e = c .before .before .number .ensures in
-    ?
+    let o = numberOf (drop 1 s) in
+    let e = c .before .before .number .ensures ∙ ap (λ (l : List ℕ). capped (numberOf l)) (rest-part s) in
+    let m = figure-minus s (c .before .before .before .before .before .before .if1 .left) (c .before .before .before .before .if2 .left) in
+    sym (ap asWord (m ∙ minus-much o (omega arith)))
 
 sub-t3 : tie.Need-sub-t3
 sub-t3 c = search needs
@@ -59,10 +63,17 @@ cast-t10 : tie.Need-cast-t10
 cast-t10 c = search needs
 
 sub-t11 : tie.Need-sub-t11
-sub-t11 c = ?
+sub-t11 c = minus-fits (c .before .before .number .result - 1) (omega arith)
 
 returns-5 : tie.Need-returns-5
-returns-5 c = ?
+returns-5 c =
+    let s = c .before .before .before .before .before .before .before .before .args .s .now in
+    let o = numberOf (drop 1 s) in
+    let e = c .before .before .number .ensures ∙ ap (λ (l : List ℕ). capped (numberOf l)) (rest-part s) in
+    let m = figure-minus s (c .before .before .before .before .before .before .if1 .left) (c .before .before .before .before .if2 .left) in
+    let r = c .before .before .number .result in
+    let z = c .before .if3 .left in
+    ap Number (minus-is (r - 1) (omega arith) ∙ ap (λ (k : ℕ). negsuc (k - 1)) e) ∙ sym (ap asWord (m ∙ minus-some o (λ q. z (e ∙ q)) (omega arith)))
 
 pub figure-spec : {M : Type 1} → statement M
 figure-spec =

@@ -3,6 +3,8 @@ use native.Mathlib.Omega.{arith}
 use Prim.Native.Nat.{ℕ, zero, suc, _+_, _*_, _-_, _≤_, _<_}
 use mathlib.Core.Path.{_≡_, refl, sym, ap, _∙_}
 use lib.ListN.{length, getD, drop}
+use mir.Facts.{toZ-ofZ}
+use Rattle.script.proofs.WordLaws.{call-v, call-vw, call-vfw, call-put, call-vf, call-settle, call-none}
 use Rattle.script.proofs.is_call.Statement.{statement}
 use Rattle.script.proofs.is_call.Tie as tie
 
@@ -26,28 +28,45 @@ within-requires-6 c κs = search needs
 
 returns : tie.Need-returns
 returns c =
-    let e = c .within .ensures in
-    ?
+    let x = c .before .before .args in
+    let f = c .before .before .fits in
+    (simp (toZ-ofZ (f .a), toZ-ofZ (f .b), toZ-ofZ (f .c)) at (c .within .ensures)) ∙ call-v (x .m) (x .op) (x .a) (x .b) (x .c) (c .before .match .keys1)
 
 returns-2 : tie.Need-returns-2
-returns-2 c = ?
+returns-2 c =
+    let x = c .before .before .args in
+    let f = c .before .before .fits in
+    (simp (toZ-ofZ (f .a), toZ-ofZ (f .b), toZ-ofZ (f .c)) at (c .within2 .ensures)) ∙ call-vw (x .m) (x .op) (x .a) (x .b) (x .c) (c .before .match .keys2)
 
 returns-3 : tie.Need-returns-3
-returns-3 c = ?
+returns-3 c =
+    let x = c .before .before .args in
+    let f = c .before .before .fits in
+    (simp (toZ-ofZ (f .a), toZ-ofZ (f .b), toZ-ofZ (f .c)) at (c .within3 .ensures)) ∙ call-vfw (x .m) (x .op) (x .a) (x .b) (x .c) (c .before .match .keys3)
 
 returns-4 : tie.Need-returns-4
 returns-4 c =
-    let e = c .within4 .ensures in
-    ?
+    let x = c .before .before .args in
+    let f = c .before .before .fits in
+    (simp (toZ-ofZ (f .a), toZ-ofZ (f .b)) at (c .within4 .ensures)) ∙ call-put (x .m) (x .op) (x .a) (x .b) (x .c) (c .before .match .keys4) (f .c)
 
 returns-5 : tie.Need-returns-5
-returns-5 c = ?
+returns-5 c =
+    let x = c .before .before .args in
+    let f = c .before .before .fits in
+    (simp (toZ-ofZ (f .a), toZ-ofZ (f .b), toZ-ofZ (f .c)) at (c .within5 .ensures)) ∙ call-vf (x .m) (x .op) (x .a) (x .b) (x .c) (c .before .match .keys5)
 
 returns-6 : tie.Need-returns-6
-returns-6 c = ?
+returns-6 c =
+    let x = c .before .before .args in
+    let f = c .before .before .fits in
+    (simp (toZ-ofZ (f .a), toZ-ofZ (f .b), toZ-ofZ (f .c)) at (c .within6 .ensures)) ∙ call-settle (x .m) (x .op) (x .a) (x .b) (x .c) (c .before .match .keys6)
 
 returns-7 : tie.Need-returns-7
-returns-7 c = ?
+returns-7 c =
+    let x = c .before .args in
+    let r = c .match .rest in
+    call-none (x .m) (x .op) (x .a) (x .b) (x .c) (r .0 .0 .0 .0 .0 .1) (r .0 .0 .0 .0 .1) (r .0 .0 .0 .1) (r .0 .0 .1) (r .0 .1) (r .1)
 
 pub is-call-spec : {M : Type 1} → statement M
 is-call-spec =
