@@ -100,9 +100,12 @@ field-end s i (suc left) h = rw (tab-end s i h, upTo-end 9 s i h)
 pub field-first : (s : List ℕ) (i left : ℕ) → left ≡ 0 → upTo 9 (drop i s) ≡ getD (fieldsOf (drop i s)) left []
 field-first s i left e = rw e
 
--- the part from where a field starts to where it ends
+-- the part from a place up to the next b
+pub part-to : (b : ℕ) (s : List ℕ) (a : ℕ) → take (a + length (upTo b (drop a s)) - a) (drop a s) ≡ upTo b (drop a s)
+part-to b s a = rw (add-sub-cancel-left a (length (upTo b (drop a s)))) (upTo-take b (drop a s))
+
 pub field-part : (s : List ℕ) (k a : ℕ) → Starts s k a → take (a + length (upTo 9 (drop a s)) - a) (drop a s) ≡ getD (fieldsOf s) k []
-field-part s k a h = rw (add-sub-cancel-left a (length (upTo 9 (drop a s))), upTo-take 9 (drop a s)) (h .field)
+field-part s k a h = part-to 9 s a ∙ h .field
 
 pub end-inside : (b : ℕ) (s : List ℕ) (a : ℕ) → a ≤ length s → a + length (upTo b (drop a s)) ≤ length s
 end-inside b s a h = let e = upTo-most b (drop a s) in let d = length-drop a s in omega arith

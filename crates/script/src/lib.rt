@@ -7,7 +7,7 @@ ghost use lib.ListN.{length, getD, drop};
 ghost use lib.IntN.{pos};
 ghost use mathlib.Core.Bool.{_&&_};
 ghost use Rattle.rules.specs.Call.{callOf, isBelow};
-ghost use Rattle.script.specs.Text.{sameBytes, upTo, fieldsOf, lineEnd};
+ghost use Rattle.script.specs.Text.{sameBytes, upTo, fieldsOf, lineAt, lineEnd, nextLine};
 ghost use Rattle.script.specs.Number.{digitsFrom, numberOf, plainOf, figureOf};
 ghost use Rattle.script.specs.Line.{operationOf, arity, wordOf, isCall, callLine, lineOf, heapLine, headLineOf, asWord, capped};
 ghost use Rattle.script.specs.Place.{Starts};
@@ -49,6 +49,23 @@ pub fn line_end(text: &[u8], at: usize) -> usize
     end_at(text, at, 10)
 }
 
+// The line that starts at a place, as a part of the text.
+pub fn line_at(text: &[u8], at: usize) -> &[u8]
+    requires { ⌜ at ≤ length (now text) ⌝ }
+    ensures { λ r. ⌜ now r ≡ lineAt (now (text .entry)) at ⌝ }
+{
+    let e = line_end(text, at);
+    &text[at..e]
+}
+
+// Where the next line starts; past the end where there is none.
+pub fn line_next(text: &[u8], at: usize) -> usize
+    requires { ⌜ at ≤ length (now text) ⌝ }
+    ensures { λ r. ⌜ r ≡ nextLine (now (text .entry)) at ⌝ }
+{
+    line_end(text, at) + 1
+}
+
 // Are the bytes the same?
 fn same(a: &[u8], b: &[u8]) -> bool
     ensures { λ r. ⌜ r ≡ sameBytes (now (a .entry)) (now (b .entry)) ⌝ }
@@ -85,7 +102,7 @@ fn field_start(s: &[u8], k: usize) -> usize
 }
 
 // Field k of a line; empty where there is none.
-pub fn field(s: &[u8], k: usize) -> &[u8]
+fn field(s: &[u8], k: usize) -> &[u8]
     ensures { λ r. ⌜ now r ≡ getD (fieldsOf (now (s .entry))) k [] ⌝ }
 {
     let a = field_start(s, k);
@@ -94,7 +111,7 @@ pub fn field(s: &[u8], k: usize) -> &[u8]
 }
 
 // How many fields a line has.
-pub fn fields(s: &[u8]) -> usize
+fn fields(s: &[u8]) -> usize
     ensures { λ r. ⌜ r ≡ length (fieldsOf (now (s .entry))) ⌝ }
 {
     let mut n: usize = 1;
@@ -132,7 +149,7 @@ fn digits(s: &[u8]) -> usize
 }
 
 // A number in decimal, as far as it counts.
-pub fn number(s: &[u8]) -> usize
+fn number(s: &[u8]) -> usize
     ensures { λ r. ⌜ r ≡ capped (numberOf (now (s .entry))) ⌝ }
 {
     if s.len() == 0 {
@@ -148,7 +165,7 @@ pub fn number(s: &[u8]) -> usize
 }
 
 // A variable or a field, as a word of a call.
-pub fn plain(s: &[u8]) -> Word
+fn plain(s: &[u8]) -> Word
     ensures { λ r. ⌜ r ≡ asWord (plainOf (now (s .entry))) ⌝ }
 {
     let n = number(s);
@@ -160,7 +177,7 @@ pub fn plain(s: &[u8]) -> Word
 }
 
 // A figure, as a word of a call.
-pub fn figure(s: &[u8]) -> Word
+fn figure(s: &[u8]) -> Word
     ensures { λ r. ⌜ r ≡ asWord (figureOf (now (s .entry))) ⌝ }
 {
     if s.len() == 0 {
@@ -180,7 +197,7 @@ pub fn figure(s: &[u8]) -> Word
 }
 
 // The number of an operation word, 11 for batch, 0 for any other.
-pub fn operation(s: &[u8]) -> usize
+fn operation(s: &[u8]) -> usize
     ensures { λ r. ⌜ r ≡ operationOf (now (s .entry)) ⌝ }
 {
     if same(s, b"new") {
@@ -303,7 +320,7 @@ fn call_line(line: &[u8], m: usize, op: usize) -> Line
 }
 
 // What a line after the first says, over m variables.
-pub fn next_line(line: &[u8], m: usize) -> Line
+pub fn later_line(line: &[u8], m: usize) -> Line
     ensures { λ r. ⌜ r ≡ lineOf m (now (line .entry)) ⌝ }
 {
     if 80 < line.len() {

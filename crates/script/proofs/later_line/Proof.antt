@@ -5,8 +5,8 @@ use mathlib.Core.Path.{_≡_, refl, sym, ap, _∙_}
 use lib.ListN.{length, getD, drop}
 use Rattle.script.specs.Line.{operationOf}
 use Rattle.script.proofs.LineLaws.{operation-most, line-long, line-other, line-batch, line-call}
-use Rattle.script.proofs.next_line.Statement.{statement}
-use Rattle.script.proofs.next_line.Tie as tie
+use Rattle.script.proofs.later_line.Statement.{statement}
+use Rattle.script.proofs.later_line.Tie as tie
 
 returns : tie.Need-returns
 returns c = sym (line-long (c .before .before .args .m) (c .before .before .args .line .now) (c .if1 .taken))
@@ -53,8 +53,8 @@ returns-4 c =
     let d = c .before .before .if2 .left in
     c .call-line .ensures ∙ sym (line-call (a .m) (a .line .now) (c .before .before .before .before .before .operation .result) (c .before .before .before .before .before .before .before .if1 .left) (c .before .before .before .before .before .operation .ensures ∙ ap operationOf (c .before .before .before .before .before .before .field .ensures)) (omega arith) (c .before .if3 .left))
 
-pub next-line-spec : {M : Type 1} → statement M
-next-line-spec =
+pub later-line-spec : {M : Type 1} → statement M
+later-line-spec =
     tie.close
     (tie.spec
     returns
