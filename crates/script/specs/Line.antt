@@ -1,5 +1,5 @@
 -- What a line says. Assumes nothing.
-use Prim.Native.Nat.{ℕ, zero, suc, _+_, zero-le}
+use Prim.Native.Nat.{ℕ, suc, _+_, zero-le}
 use mathlib.Core.Path.{_≡_, refl}
 use native.Mathlib.Omega.{arith}
 use borrow.Author.Tests.{leb-true, le-leb}

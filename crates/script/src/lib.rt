@@ -12,6 +12,15 @@ ghost use Rattle.script.specs.Number.{digitsFrom, numberOf, plainOf, fig
 ghost use Rattle.script.specs.Line.{operationOf, arity, wordOf, isCall, callLine, lineOf, heapLine, headLineOf, asWord, capped};
 ghost use Rattle.script.specs.Place.{Starts};
 
+// A line holds at most so many bytes besides its LF.
+const LONGEST: usize = 80;
+
+// The least figure with its minus off: no line has a use for a number above it.
+const MOST: usize = 2147483648;
+
+// What stands for any number above MOST, and for what is no number.
+const NONE: usize = 2147483649;
+
 // A word of a call, or what is none.
 pub enum Word {
     Number(i32),
@@ -134,14 +143,14 @@ fn digits(s: &[u8]) -> usize
     while i < s.len() {
         let b = s[i];
         if b < 48 {
-            return 2147483649;
+            return NONE;
         }
         if 57 < b {
-            return 2147483649;
+            return NONE;
         }
         n = n * 10 + (b as usize - 48);
-        if 2147483648 < n {
-            return 2147483649;
+        if MOST < n {
+            return NONE;
         }
         i += 1;
     }
@@ -153,13 +162,13 @@ fn number(s: &[u8]) -> usize
     ensures { λ r. ⌜ r ≡ capped (numberOf (now (s .entry))) ⌝ }
 {
     if s.len() == 0 {
-        return 2147483649;
+        return NONE;
     }
     if s.len() == 1 {
         return digits(s);
     }
     if s[0] == 48 {
-        return 2147483649;
+        return NONE;
     }
     digits(s)
 }
@@ -169,7 +178,7 @@ fn plain(s: &[u8]) -> Word
     ensures { λ r. ⌜ r ≡ asWord (plainOf (now (s .entry))) ⌝ }
 {
     let n = number(s);
-    if n < 2147483648 {
+    if n < MOST {
         Word::Number(n as i32)
     } else {
         Word::Wrong
@@ -190,7 +199,7 @@ fn figure(s: &[u8]) -> Word
     if n == 0 {
         return Word::Wrong;
     }
-    if 2147483648 < n {
+    if MOST < n {
         return Word::Wrong;
     }
     Word::Number(-1 - ((n - 1) as i32))
@@ -323,7 +332,7 @@ fn call_line(line: &[u8], m: usize, op: usize) -> Line
 pub fn later_line(line: &[u8], m: usize) -> Line
     ensures { λ r. ⌜ r ≡ lineOf m (now (line .entry)) ⌝ }
 {
-    if 80 < line.len() {
+    if LONGEST < line.len() {
         return Line::Bad;
     }
     let op = operation(field(line, 0));
@@ -355,7 +364,7 @@ fn heap_line(line: &[u8]) -> Line
 pub fn first_line(line: &[u8]) -> Line
     ensures { λ r. ⌜ r ≡ headLineOf (now (line .entry)) ⌝ }
 {
-    if 80 < line.len() {
+    if LONGEST < line.len() {
         return Line::Bad;
     }
     if fields(line) != 5 {

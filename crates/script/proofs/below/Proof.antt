@@ -1,8 +1,3 @@
-use borrow.Author.Needs.{needs}
-use native.Mathlib.Omega.{arith}
-use Prim.Native.Nat.{ℕ, zero, suc, _+_, _*_, _-_, _≤_, _<_}
-use mathlib.Core.Path.{_≡_, refl, sym, ap, _∙_}
-use lib.ListN.{length, getD, drop}
 use mir.Facts.{toZ-ofZ}
 use Rattle.script.proofs.WordLaws.{below-minus, below-plain, plain-fits}
 use Rattle.script.proofs.below.Statement.{statement}

@@ -1,8 +1,8 @@
 use borrow.Author.Needs.{needs}
 use native.Mathlib.Omega.{arith}
-use Prim.Native.Nat.{ℕ, zero, suc, _+_, _*_, _-_, _≤_, _<_}
-use mathlib.Core.Path.{_≡_, refl, sym, ap, _∙_}
-use lib.ListN.{length, getD, drop}
+use Prim.Native.Nat.{suc, _+_, _-_, _≤_, _<_}
+use mathlib.Core.Path.{_≡_, ap}
+use lib.ListN.{length, drop}
 use mathlib.Core.Logic.{⊎-elim}
 use Rattle.script.specs.Text.{moreFields}
 use Rattle.script.proofs.TextLaws.{tab-here, tab-on, tab-end}

@@ -1,8 +1,7 @@
 use borrow.Author.Needs.{needs}
 use native.Mathlib.Omega.{arith}
-use Prim.Native.Nat.{ℕ, zero, suc, _+_, _*_, _-_, _≤_, _<_}
-use mathlib.Core.Path.{_≡_, refl, sym, ap, _∙_}
-use lib.ListN.{length, getD, drop}
+use Prim.Native.Nat.{ℕ}
+use mathlib.Core.Path.{sym, ap, _∙_}
 use Rattle.script.proofs.LineLaws.{head-long, head-other, head-word}
 use mathlib.Core.Bool.{true, false}
 use mathlib.Core.List.{List}
@@ -11,13 +10,13 @@ use Rattle.script.proofs.first_line.Statement.{statement}
 use Rattle.script.proofs.first_line.Tie as tie
 
 returns : tie.Need-returns
-returns c = sym (head-long (c .before .before .args .line .now) (c .if1 .taken))
+returns c = sym (head-long (c .before .before .args .line .now) (omega arith))
 
 fields-requires : tie.Need-fields-requires
 fields-requires c κs = search needs
 
 returns-2 : tie.Need-returns-2
-returns-2 c = sym (head-other (c .before .before .before .before .args .line .now) (c .before .before .if1 .left) (λ e. c .if2 .taken (c .before .fields .ensures ∙ e)))
+returns-2 c = sym (head-other (c .before .before .before .before .args .line .now) (omega arith) (λ e. c .if2 .taken (c .before .fields .ensures ∙ e)))
 
 field-requires : tie.Need-field-requires
 field-requires c κs = search needs
@@ -34,10 +33,10 @@ heap-line-requires c κs = search needs
 returns-3 : tie.Need-returns-3
 returns-3 c =
     c .heap-line .ensures
-    ∙ sym (head-word (c .before .before .before .before .before .before .before .before .before .args .line .now) true (c .before .before .before .before .before .before .before .if1 .left) (sym (c .before .before .before .before .before .before .fields .ensures) ∙ c .before .before .before .before .before .if2 .left) (ap (λ (l : List ℕ). sameBytes l (bytes "heap")) (sym (c .before .before .before .before .field .ensures)) ∙ sym (c .before .before .same .ensures) ∙ c .before .if3 .taken))
+    ∙ sym (head-word (c .before .before .before .before .before .before .before .before .before .args .line .now) true (omega arith) (sym (c .before .before .before .before .before .before .fields .ensures) ∙ c .before .before .before .before .before .if2 .left) (ap (λ (l : List ℕ). sameBytes l (bytes "heap")) (sym (c .before .before .before .before .field .ensures)) ∙ sym (c .before .before .same .ensures) ∙ c .before .if3 .taken))
 
 returns-4 : tie.Need-returns-4
-returns-4 c = sym (head-word (c .before .before .before .before .before .before .before .before .args .line .now) false (c .before .before .before .before .before .before .if1 .left) (sym (c .before .before .before .before .before .fields .ensures) ∙ c .before .before .before .before .if2 .left) (ap (λ (l : List ℕ). sameBytes l (bytes "heap")) (sym (c .before .before .before .field .ensures)) ∙ sym (c .before .same .ensures) ∙ c .if3 .left))
+returns-4 c = sym (head-word (c .before .before .before .before .before .before .before .before .args .line .now) false (omega arith) (sym (c .before .before .before .before .before .fields .ensures) ∙ c .before .before .before .before .if2 .left) (ap (λ (l : List ℕ). sameBytes l (bytes "heap")) (sym (c .before .before .before .field .ensures)) ∙ sym (c .before .same .ensures) ∙ c .if3 .left))
 
 pub first-line-spec : {M : Type 1} → statement M
 first-line-spec =

@@ -1,8 +1,5 @@
 use borrow.Author.Needs.{needs}
 use native.Mathlib.Omega.{arith}
-use Prim.Native.Nat.{ℕ, zero, suc, _+_, _*_, _-_, _≤_, _<_}
-use mathlib.Core.Path.{_≡_, refl, sym, ap, _∙_}
-use lib.ListN.{length, getD, drop}
 use Rattle.script.proofs.TextLaws.{end-inside, part-to}
 use Rattle.script.proofs.line_at.Statement.{statement}
 use Rattle.script.proofs.line_at.Tie as tie

@@ -1,8 +1,5 @@
 use borrow.Author.Needs.{needs}
-use native.Mathlib.Omega.{arith}
-use Prim.Native.Nat.{ℕ, zero, suc, _+_, _*_, _-_, _≤_, _<_}
-use mathlib.Core.Path.{_≡_, refl, sym, ap, _∙_}
-use lib.ListN.{length, getD, drop}
+use mathlib.Core.Path.{sym, ap, _∙_}
 use Rattle.script.specs.Line.{capped}
 use Rattle.script.proofs.NumberLaws.{number-none, number-one, number-zero, number-more}
 use Rattle.script.proofs.number.Statement.{statement}
