@@ -124,12 +124,12 @@ fn fields(s: &[u8]) -> usize
     ensures { λ r. ⌜ r ≡ length (fieldsOf (now (s .entry))) ⌝ }
 {
     let mut n: usize = 1;
-    let mut i = 0;
-    while i < s.len() {
-        if s[i] == 9 {
+    let mut at = 0;
+    while at < s.len() {
+        if s[at] == 9 {
             n += 1;
         }
-        i += 1;
+        at += 1;
     }
     n
 }

@@ -10,10 +10,10 @@ use Rattle.script.proofs.fields.Statement.{statement}
 use Rattle.script.proofs.fields.Tie as tie
 
 abbrev Inv-loop : tie.InvT-loop
-Inv-loop s n₀ i₀ n i = (i ≤ length s) × (n ≤ i + 1) × (n + length (moreFields (drop i s)) ≡ suc (length (moreFields s)))
+Inv-loop s n₀ at₀ n i = (i ≤ length s) × (n ≤ i + 1) × (n + length (moreFields (drop i s)) ≡ suc (length (moreFields s)))
 
 abbrev μ-loop : tie.MeasureT-loop
-μ-loop s n₀ i₀ n i = length s - i
+μ-loop s n₀ at₀ n i = length s - i
 
 loop-holds : tie.Need-loop-holds Inv-loop μ-loop
 loop-holds c = search needs
@@ -24,8 +24,8 @@ shared-slice-read-if1 c = search needs
 add-n : tie.Need-add-n Inv-loop μ-loop
 add-n c = search needs
 
-add-i : tie.Need-add-i Inv-loop μ-loop
-add-i c = search needs
+add-at : tie.Need-add-at Inv-loop μ-loop
+add-at c = search needs
 
 loop-less : tie.Need-loop-less Inv-loop μ-loop
 loop-less c = search needs
@@ -34,7 +34,7 @@ loop-again : tie.Need-loop-again Inv-loop μ-loop
 loop-again c =
     let l = c .before .before .before in
     let s = l .before .args .s .now in
-    let i = l .loop .i in
+    let i = l .loop .at in
     let h : i < length s = omega arith in
     ⊎-elim (λ w. omega (arith, ap length (tab-here s i h (w .0 .taken)))) (λ w. omega (arith, ap length (tab-on s i h (w .0 .left)))) (c .if1 .came)
 
@@ -42,7 +42,7 @@ returns : tie.Need-returns Inv-loop μ-loop
 returns c =
     let l = c .before in
     let s = l .before .args .s .now in
-    let i = l .loop .i in
+    let i = l .loop .at in
     omega (arith, ap length (tab-end s i (omega arith)))
 
 pub fields-spec : {M : Type 1} → statement M
@@ -54,7 +54,7 @@ fields-spec =
     loop-holds
     shared-slice-read-if1
     add-n
-    add-i
+    add-at
     loop-less
     loop-again
     returns)
