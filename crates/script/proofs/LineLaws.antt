@@ -17,7 +17,8 @@ use Rattle.script.specs.declared.Line.the-variants as L
 use Rattle.script.specs.declared.Word.the-variants.{Number, Wrong}
 use Rattle.script.specs.Text.{bytes, sameBytes, moreFields, fieldsOf}
 use Rattle.script.specs.Number.{numberOf, plainOf, figureOf}
-use Rattle.script.specs.Line.{wordIn, operations, operationOf, arity, wordOf, callIf, callWith, callLine, operationLine, lineOf, isFine, isFine-says, onNumber, heapLine, headLineOf, asWord, capped, isCall}
+use Rattle.script.specs.Line.{wordIn, operations, operationOf, arity, wordOf, callIf, callWith, callLine, operationLine, lineOf, isFine, onNumber, heapLine, headLineOf, asWord, capped, isCall}
+use Rattle.script.proofs.Meaning.{isFine-says, with-one, with-two, with-three, with-four}
 
 -- ---- the words of an operation
 
@@ -161,18 +162,6 @@ fine-not n m l cap d = go (isFine n m l cap) refl
 heap-last : (n m l cap N M E C : ℕ) (r : Bool) → n ≡ N → m ≡ M → l ≡ E → cap ≡ C → Says r (Limits (freshHead n m l cap)) → cond (isFine N M E C) (L.Heap N M E C) L.Bad ≡ cond r (L.Heap n m l cap) L.Bad
 heap-last n m l cap N M E C r en em el ec s =
     rw (← en, ← em, ← el, ← ec, says-same (isFine n m l cap) r (Limits (freshHead n m l cap)) (isFine-says n m l cap) s)
-
-abbrev with-four : ℕ → ℕ → ℕ → ℕ → Line
-with-four n m l c = cond (isFine n m l c) (L.Heap n m l c) L.Bad
-
-abbrev with-three : ℕ → ℕ → ℕ → Option ℕ → Line
-with-three n m l o = onNumber o (λ c. with-four n m l c)
-
-abbrev with-two : ℕ → ℕ → Option ℕ → Option ℕ → Line
-with-two n m o₃ o = onNumber o₃ (λ l. with-three n m l o)
-
-abbrev with-one : ℕ → Option ℕ → Option ℕ → Option ℕ → Line
-with-one n o₂ o₃ o = onNumber o₂ (λ m. with-two n m o₃ o)
 
 not-three : (n m l : ℕ) (o : Option ℕ) → ((c : ℕ) → Limits (freshHead n m l c) → ⊥) → with-three n m l o ≡ L.Bad
 not-three n m l o d = on-bad o (λ c. with-four n m l c) (λ c. fine-not n m l c (d c))

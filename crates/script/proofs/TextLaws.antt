@@ -8,9 +8,9 @@ use native.Mathlib.Omega.{arith}
 use lib.Dec.{eqb}
 use native.Mathlib.Nat.{add-sub-cancel-left}
 use lib.ListN.{length, getD, take, drop, length-drop, drop-of-length-le}
-use lib.Seq.{drop-cons, take-all}
+use lib.Seq.{drop-cons, drop-drop, take-all}
 use borrow.Author.Tests.{eq-eqb, ne-eqb}
-use Rattle.script.specs.Text.{sameBytes, upTo, moreFields, fieldsOf}
+use Rattle.script.specs.Text.{sameBytes, upTo, moreFields, fieldsOf, linesFrom, linesOf, lineAt, nextLine}
 use Rattle.script.specs.Place.{Starts}
 
 -- ---- up to a byte
@@ -113,3 +113,32 @@ end-inside b s a h = let e = upTo-most b (drop a s) in let d = length-drop a s i
 -- all after the first byte
 pub rest-part : (s : List ℕ) → take (length s - 1) (drop 1 s) ≡ drop 1 s
 rest-part s = take-all (length s - 1) (drop 1 s) (omega (arith, length-drop 1 s))
+
+-- ---- the lines of a text
+
+-- what is left of the text after a line
+lines-after : (xs : List ℕ) → linesFrom false xs ≡ linesFrom true (drop (suc (length (upTo 10 xs))) xs)
+unfolding linesFrom upTo
+lines-after [] = refl
+lines-after (x ∷ xs) = go (eqb x 10) (lines-after xs)
+  where
+    go : (q : Bool) → linesFrom false xs ≡ linesFrom true (drop (suc (length (upTo 10 xs))) xs) → linesFrom q xs ≡ linesFrom true (drop (length (cond q [] (x ∷ upTo 10 xs))) xs)
+    go true e = refl
+    go false e = e
+
+lines-first : (x : ℕ) (xs : List ℕ) → linesFrom true (x ∷ xs) ≡ upTo 10 (x ∷ xs) ∷ linesFrom false (x ∷ xs)
+unfolding linesFrom
+lines-first x xs = refl
+
+-- the lines from a place on, below the text's length: the line there, and those from the next on
+pub lines-step : (xs : List ℕ) (at : ℕ) → at < length xs → linesOf (drop at xs) ≡ lineAt xs at ∷ linesOf (drop (nextLine xs at) xs)
+lines-step xs at h =
+    let d = drop-cons xs at 0 h in
+    let f : linesFrom true (drop at xs) ≡ upTo 10 (drop at xs) ∷ linesFrom false (drop at xs) = rw d (lines-first (getD xs at 0) (drop (suc at) xs)) in
+    let n : at + suc (length (upTo 10 (drop at xs))) ≡ nextLine xs at = omega arith in
+    f ∙ ap (λ (l : List (List ℕ)). upTo 10 (drop at xs) ∷ l) (lines-after (drop at xs) ∙ ap (linesFrom true) (drop-drop (suc (length (upTo 10 (drop at xs)))) at xs ∙ ap (λ (k : ℕ). drop k xs) n))
+
+-- no line starts at the text's end or past it
+pub lines-end : (xs : List ℕ) (at : ℕ) → length xs ≤ at → linesOf (drop at xs) ≡ []
+unfolding linesFrom
+lines-end xs at h = rw (drop-of-length-le xs h)

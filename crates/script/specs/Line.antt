@@ -1,8 +1,5 @@
 -- What a line says. Assumes nothing.
-use Prim.Native.Nat.{ℕ, suc, _+_, zero-le}
-use mathlib.Core.Path.{_≡_, refl}
-use native.Mathlib.Omega.{arith}
-use borrow.Author.Tests.{leb-true, le-leb}
+use Prim.Native.Nat.{ℕ, suc, _+_}
 use mathlib.Core.Bool.{Bool, true, false, cond, _&&_}
 use mathlib.Core.Option.{Option, none, some}
 use mathlib.Core.List.{List, [], _∷_}
@@ -11,7 +8,6 @@ use lib.ListN.{length, getD}
 use lib.IntN.{ℤ, pos}
 use Rattle.rules.specs.declared.Call.{Call}
 use Rattle.rules.specs.Call.{callOf}
-use Rattle.rules.specs.Head.{Limits, Says, freshHead}
 use Rattle.script.specs.declared.Line.{Line}
 use Rattle.script.specs.declared.Line.the-variants as L
 use Rattle.script.specs.declared.Word.{Word}
@@ -70,47 +66,9 @@ lineOf m bs = cond (leb (length bs) 80) (operationLine m (operationOf (getD (fie
 
 -- ---- line 1
 
--- within the limits of n, m, L and cap (`isFine-says`)
+-- within the limits of n, m, L and cap: what rules calls `Limits` (`isFine-says` of proofs/Meaning)
 unfoldable pub isFine : ℕ → ℕ → ℕ → ℕ → Bool
 isFine n m l cap = leb 1 n && leb n 1024 && leb 1 m && leb m 64 && leb 2 l && leb l 1024 && leb 3 cap && leb cap 255
-
-both : (p q : Bool) → (p && q) ≡ true → (p ≡ true) × (q ≡ true)
-both true true h = (refl, refl)
-both true false h = absurd (let z : _≡_ {A = ℕ} 0 1 = cc in omega arith)
-both false true h = absurd (let z : _≡_ {A = ℕ} 0 1 = cc in omega arith)
-both false false h = absurd (let z : _≡_ {A = ℕ} 0 1 = cc in omega arith)
-
--- what `isFine` tests is that the numbers are within the limits of rules
-pub isFine-says : (n m l cap : ℕ) → Says (isFine n m l cap) (Limits (freshHead n m l cap))
-unfolding isFine
-isFine-says n m l cap =
-    record {
-      yes = λ h.
-          let a = both _ _ h in
-          let b = both _ _ (a .0) in
-          let c = both _ _ (b .0) in
-          let d = both _ _ (c .0) in
-          let e = both _ _ (d .0) in
-          let f = both _ _ (e .0) in
-          let g = both _ _ (f .0) in
-          record {
-            n-least = leb-true 1 n (g .0);
-            n-most = leb-true n 1024 (g .1);
-            m-least = leb-true 1 m (f .1);
-            m-most = leb-true m 64 (e .1);
-            l-least = leb-true 2 l (d .1);
-            l-most = leb-true l 1024 (c .1);
-            cap-least = leb-true 3 cap (b .1);
-            cap-most = leb-true cap 255 (a .1);
-            free-most = zero-le;
-            zct-most = zero-le;
-            mrt-most = zero-le;
-          };
-      no = λ h L.
-          let t : isFine n m l cap ≡ true = rw (le-leb 1 n (L .n-least), le-leb n 1024 (L .n-most), le-leb 1 m (L .m-least), le-leb m 64 (L .m-most), le-leb 2 l (L .l-least), le-leb l 1024 (L .l-most), le-leb 3 cap (L .cap-least), le-leb cap 255 (L .cap-most)) in
-          let z : _≡_ {A = ℕ} 0 1 = cc (t, h) in
-          omega arith;
-    }
 
 -- with a number, where there is one
 abbrev pub onNumber : Option ℕ → (ℕ → Line) → Line

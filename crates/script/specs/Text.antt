@@ -1,16 +1,13 @@
 -- The text of a script: its lines, and the fields of a line. Assumes nothing.
-use Prim.Native.Nat.{ℕ, suc, _+_, _≤_, _<_}
-use mathlib.Core.Path.{_≡_, refl, ap, _∙_}
-use native.Mathlib.Omega.{arith}
+use Prim.Native.Nat.{ℕ, _+_}
 use Prim.Native.String.{String, [] as []ˢ, _∷_ as _∷ˢ_}
 use Prim.Native.Char.{code}
 use mathlib.Core.Bool.{Bool, true, false, cond, _&&_}
 use mathlib.Core.List.{List, [], _∷_}
 use lib.Dec.{eqb}
-use lib.ListN.{length, getD, drop, drop-of-length-le}
-use lib.Seq.{drop-cons, drop-drop}
+use lib.ListN.{length, drop}
 
--- the bytes of a text in quotes
+-- the bytes of a text in quotes (letters, digits and signs of 7 bits)
 abbrev pub bytes : String → List ℕ
 bytes []ˢ = []
 bytes (c ∷ˢ s) = code c ∷ bytes s
@@ -53,33 +50,6 @@ lineAt xs at = upTo 10 (drop at xs)
 abbrev pub lineEnd : List ℕ → ℕ → ℕ
 lineEnd xs at = at + length (lineAt xs at)
 
--- where the next line starts; there is one if that is below the text's length
+-- where the next line starts; there is one if that is below the text's length (`lines-step`, `lines-end` of proofs/TextLaws)
 abbrev pub nextLine : List ℕ → ℕ → ℕ
 nextLine xs at = lineEnd xs at + 1
-
--- what is left of the text after a line
-lines-after : (xs : List ℕ) → linesFrom false xs ≡ linesFrom true (drop (suc (length (upTo 10 xs))) xs)
-unfolding linesFrom upTo
-lines-after [] = refl
-lines-after (x ∷ xs) = go (eqb x 10) (lines-after xs)
-  where
-    go : (q : Bool) → linesFrom false xs ≡ linesFrom true (drop (suc (length (upTo 10 xs))) xs) → linesFrom q xs ≡ linesFrom true (drop (length (cond q [] (x ∷ upTo 10 xs))) xs)
-    go true e = refl
-    go false e = e
-
-lines-first : (x : ℕ) (xs : List ℕ) → linesFrom true (x ∷ xs) ≡ upTo 10 (x ∷ xs) ∷ linesFrom false (x ∷ xs)
-unfolding linesFrom
-lines-first x xs = refl
-
--- the lines from a place on, below the text's length: the line there, and those from the next on
-pub lines-step : (xs : List ℕ) (at : ℕ) → at < length xs → linesOf (drop at xs) ≡ lineAt xs at ∷ linesOf (drop (nextLine xs at) xs)
-lines-step xs at h =
-    let d = drop-cons xs at 0 h in
-    let f : linesFrom true (drop at xs) ≡ upTo 10 (drop at xs) ∷ linesFrom false (drop at xs) = rw d (lines-first (getD xs at 0) (drop (suc at) xs)) in
-    let n : at + suc (length (upTo 10 (drop at xs))) ≡ nextLine xs at = omega arith in
-    f ∙ ap (λ (l : List (List ℕ)). upTo 10 (drop at xs) ∷ l) (lines-after (drop at xs) ∙ ap (linesFrom true) (drop-drop (suc (length (upTo 10 (drop at xs)))) at xs ∙ ap (λ (k : ℕ). drop k xs) n))
-
--- no line starts at the text's end or past it
-pub lines-end : (xs : List ℕ) (at : ℕ) → length xs ≤ at → linesOf (drop at xs) ≡ []
-unfolding linesFrom
-lines-end xs at h = rw (drop-of-length-le xs h)
