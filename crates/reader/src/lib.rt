@@ -1,0 +1,58 @@
+// The reading of a script line by line: what a line says, its number, and where the next starts.
+use script::Line;
+use script::first_line;
+use script::later_line;
+use script::line_at;
+use script::line_next;
+ghost use mathlib.Core.Path.{_≡_};
+ghost use Prim.Native.Nat.{_<_, _≤_};
+ghost use lib.ListN.{length};
+ghost use Rattle.reader.specs.Reading.{firstRead, laterRead};
+
+// What a line says, its number, and where the next starts.
+pub struct Read {
+    pub line: Line,
+    pub number: usize,
+    pub next: usize,
+}
+
+// The line at a place, after so many, read as line 1.
+pub fn scan_first(text: &[u8], at: usize, number: usize) -> Read
+    requires { ⌜ (at ≤ length (now text)) × (number < 1000000) ⌝ }
+    ensures { λ r. ⌜ r ≡ firstRead (now (text .entry)) at number ⌝ }
+{
+    let line = first_line(line_at(text, at));
+    Read {
+        line,
+        number: number + 1,
+        next: line_next(text, at),
+    }
+}
+
+// The line at a place, after so many, read as a later line.
+pub fn scan_later(text: &[u8], at: usize, number: usize, m: usize) -> Read
+    requires { ⌜ (at ≤ length (now text)) × (number < 1000000) ⌝ }
+    ensures { λ r. ⌜ r ≡ laterRead m (now (text .entry)) at number ⌝ }
+{
+    let line = later_line(line_at(text, at), m);
+    Read {
+        line,
+        number: number + 1,
+        next: line_next(text, at),
+    }
+}
+
+// Line 1 of a script.
+pub fn read_first(text: &[u8]) -> Read
+    ensures { λ r. ⌜ r ≡ firstRead (now (text .entry)) 0 0 ⌝ }
+{
+    scan_first(text, 0, 0)
+}
+
+// The line that starts at a place, after so many, over m variables.
+pub fn read_later(text: &[u8], at: usize, number: usize, m: usize) -> Read
+    requires { ⌜ (at ≤ length (now text)) × (number < 1000000) ⌝ }
+    ensures { λ r. ⌜ r ≡ laterRead m (now (text .entry)) at number ⌝ }
+{
+    scan_later(text, at, number, m)
+}
