@@ -7,7 +7,7 @@ use script::line_next;
 ghost use mathlib.Core.Path.{_≡_};
 ghost use Prim.Native.Nat.{_<_, _≤_};
 ghost use lib.ListN.{length};
-ghost use Rattle.reader.specs.Reading.{firstRead, laterRead};
+ghost use Rattle.reader.specs.Reading.{firstRead, laterRead, readerAt};
 
 // What a line says, its number, and where the next starts.
 pub struct Read {
@@ -42,11 +42,41 @@ pub fn scan_later(text: &[u8], at: usize, number: usize, m: usize) -> Read
     }
 }
 
+// The reader over the script's text, which keeps its place and its line number: how many lines it has read.
+pub struct Reader<'a> {
+    pub text: &'a [u8],
+    pub at: usize,
+    pub number: usize,
+}
+
+// A reader at a place, after so many lines.
+pub fn reader_at<'a>(text: &'a [u8], at: usize, number: usize) -> Reader<'a>
+    ensures { λ r. ⌜ r ≡ readerAt (text .entry) at number ⌝ }
+{
+    Reader { text, at, number }
+}
+
+// What a reader reads as line 1.
+pub fn first<'a>(r: Reader<'a>) -> Read
+    requires { ⌜ (r .at ≤ length (now (r .text))) × (r .number < 1000000) ⌝ }
+    ensures { λ s. ⌜ s ≡ firstRead (now (r .entry .text)) (r .entry .at) (r .entry .number) ⌝ }
+{
+    scan_first(r.text, r.at, r.number)
+}
+
+// What a reader reads as a later line, over m variables.
+pub fn later<'a>(r: Reader<'a>, m: usize) -> Read
+    requires { ⌜ (r .at ≤ length (now (r .text))) × (r .number < 1000000) ⌝ }
+    ensures { λ s. ⌜ s ≡ laterRead m (now (r .entry .text)) (r .entry .at) (r .entry .number) ⌝ }
+{
+    scan_later(r.text, r.at, r.number, m)
+}
+
 // Line 1 of a script.
 pub fn read_first(text: &[u8]) -> Read
     ensures { λ r. ⌜ r ≡ firstRead (now (text .entry)) 0 0 ⌝ }
 {
-    scan_first(text, 0, 0)
+    first(reader_at(text, 0, 0))
 }
 
 // The line that starts at a place, after so many, over m variables.
@@ -54,5 +84,5 @@ pub fn read_later(text: &[u8], at: usize, number: usize, m: usize) -> Read
     requires { ⌜ (at ≤ length (now text)) × (number < 1000000) ⌝ }
     ensures { λ r. ⌜ r ≡ laterRead m (now (text .entry)) at number ⌝ }
 {
-    scan_later(text, at, number, m)
+    later(reader_at(text, at, number), m)
 }
