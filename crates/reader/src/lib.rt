@@ -7,7 +7,7 @@ use script::line_next;
 ghost use mathlib.Core.Path.{_≡_};
 ghost use Prim.Native.Nat.{_<_, _≤_};
 ghost use lib.ListN.{length};
-ghost use Rattle.reader.specs.Reading.{firstRead, laterRead, readerAt};
+ghost use Rattle.reader.specs.Reading.{readAs, firstRead, laterRead, readerAt};
 
 // What a line says, its number, and where the next starts.
 pub struct Read {
@@ -16,17 +16,25 @@ pub struct Read {
     pub next: usize,
 }
 
+// The line at a place, after so many: it says so.
+fn read_as(line: Line, text: &[u8], at: usize, number: usize) -> Read
+    requires { ⌜ (at ≤ length (now text)) × (number < 1000000) ⌝ }
+    ensures { λ r. ⌜ r ≡ readAs line (now (text .entry)) at number ⌝ }
+{
+    Read {
+        line,
+        number: number + 1,
+        next: line_next(text, at),
+    }
+}
+
 // The line at a place, after so many, read as line 1.
 pub fn scan_first(text: &[u8], at: usize, number: usize) -> Read
     requires { ⌜ (at ≤ length (now text)) × (number < 1000000) ⌝ }
     ensures { λ r. ⌜ r ≡ firstRead (now (text .entry)) at number ⌝ }
 {
     let line = first_line(line_at(text, at));
-    Read {
-        line,
-        number: number + 1,
-        next: line_next(text, at),
-    }
+    read_as(line, text, at, number)
 }
 
 // The line at a place, after so many, read as a later line.
@@ -35,11 +43,7 @@ pub fn scan_later(text: &[u8], at: usize, number: usize, m: usize) -> Read
     ensures { λ r. ⌜ r ≡ laterRead m (now (text .entry)) at number ⌝ }
 {
     let line = later_line(line_at(text, at), m);
-    Read {
-        line,
-        number: number + 1,
-        next: line_next(text, at),
-    }
+    read_as(line, text, at, number)
 }
 
 // The reader over the script's text, which keeps its place and its line number: how many lines it has read.
