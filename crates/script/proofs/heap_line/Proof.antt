@@ -1,0 +1,82 @@
+use borrow.Author.Needs.{needs}
+use Prim.Native.Nat.{ℕ}
+use mathlib.Core.Path.{sym, ap, _∙_}
+use mathlib.Core.List.{List}
+use mathlib.Core.Bool.{Bool, cond}
+use Rattle.rules.specs.Head.{Says, Limits, freshHead}
+use Rattle.script.specs.declared.Line.the-variants.{Heap, Bad}
+use Rattle.script.specs.Text.{fieldsOf}
+use Rattle.script.specs.Number.{numberOf}
+use Rattle.script.specs.Line.{capped}
+use Rattle.script.proofs.LineLaws.{heap-says}
+use Rattle.script.proofs.heap_line.Statement.{statement}
+use Rattle.script.proofs.heap_line.Tie as tie
+
+field-requires : tie.Need-field-requires
+field-requires c κs = search needs
+
+number-requires : tie.Need-number-requires
+number-requires c κs = search needs
+
+field-requires-2 : tie.Need-field-requires-2
+field-requires-2 c κs = search needs
+
+number-requires-2 : tie.Need-number-requires-2
+number-requires-2 c κs = search needs
+
+field-requires-3 : tie.Need-field-requires-3
+field-requires-3 c κs = search needs
+
+number-requires-3 : tie.Need-number-requires-3
+number-requires-3 c κs = search needs
+
+field-requires-4 : tie.Need-field-requires-4
+field-requires-4 c κs = search needs
+
+number-requires-4 : tie.Need-number-requires-4
+number-requires-4 c κs = search needs
+
+fresh-requires : tie.Need-fresh-requires
+fresh-requires c κs = search needs
+
+within-requires : tie.Need-within-requires
+within-requires c κs = search needs
+
+returns : tie.Need-returns
+returns c =
+    let fs = fieldsOf (c .before .before .before .before .before .before .before .before .before .before .before .before .args .line .now) in
+    let n = c .before .before .before .before .before .before .before .before .before .number .result in
+    let m = c .before .before .before .before .before .before .before .number2 .result in
+    let l = c .before .before .before .before .before .number3 .result in
+    let p = c .before .before .before .number4 .result in
+    let r = c .before .within .result in
+    let w : Says r (Limits (freshHead n m l p)) = rw (c .before .before .fresh .ensures) at (c .before .within .ensures) in
+    sym (heap-says fs n m l p r (c .before .before .before .before .before .before .before .before .before .number .ensures ∙ ap (λ (l : List ℕ). capped (numberOf l)) (c .before .before .before .before .before .before .before .before .before .before .field .ensures)) (c .before .before .before .before .before .before .before .number2 .ensures ∙ ap (λ (l : List ℕ). capped (numberOf l)) (c .before .before .before .before .before .before .before .before .field2 .ensures)) (c .before .before .before .before .before .number3 .ensures ∙ ap (λ (l : List ℕ). capped (numberOf l)) (c .before .before .before .before .before .before .field3 .ensures)) (c .before .before .before .number4 .ensures ∙ ap (λ (l : List ℕ). capped (numberOf l)) (c .before .before .before .before .field4 .ensures)) w ∙ ap (λ (q : Bool). cond q (Heap n m l p) Bad) (c .if1 .taken))
+
+returns-2 : tie.Need-returns-2
+returns-2 c =
+    let fs = fieldsOf (c .before .before .before .before .before .before .before .before .before .before .before .before .args .line .now) in
+    let n = c .before .before .before .before .before .before .before .before .before .number .result in
+    let m = c .before .before .before .before .before .before .before .number2 .result in
+    let l = c .before .before .before .before .before .number3 .result in
+    let p = c .before .before .before .number4 .result in
+    let r = c .before .within .result in
+    let w : Says r (Limits (freshHead n m l p)) = rw (c .before .before .fresh .ensures) at (c .before .within .ensures) in
+    sym (heap-says fs n m l p r (c .before .before .before .before .before .before .before .before .before .number .ensures ∙ ap (λ (l : List ℕ). capped (numberOf l)) (c .before .before .before .before .before .before .before .before .before .before .field .ensures)) (c .before .before .before .before .before .before .before .number2 .ensures ∙ ap (λ (l : List ℕ). capped (numberOf l)) (c .before .before .before .before .before .before .before .before .field2 .ensures)) (c .before .before .before .before .before .number3 .ensures ∙ ap (λ (l : List ℕ). capped (numberOf l)) (c .before .before .before .before .before .before .field3 .ensures)) (c .before .before .before .number4 .ensures ∙ ap (λ (l : List ℕ). capped (numberOf l)) (c .before .before .before .before .field4 .ensures)) w ∙ ap (λ (q : Bool). cond q (Heap n m l p) Bad) (c .if1 .left))
+
+pub heap-line-spec : {M : Type 1} → statement M
+heap-line-spec =
+    tie.close
+    (tie.spec
+    field-requires
+    number-requires
+    field-requires-2
+    number-requires-2
+    field-requires-3
+    number-requires-3
+    field-requires-4
+    number-requires-4
+    fresh-requires
+    within-requires
+    returns
+    returns-2)
