@@ -1,3 +1,8 @@
+use native.Mathlib.Omega.{arith}
+use mathlib.Core.Path.{_≡_, refl}
+use Rattle.rules.specs.Head.{sizesOf}
+use Rattle.settle.proofs.Settling.{settleable}
+use Rattle.heap.proofs.Loop.{end-few, end-as}
 use borrow.Author.Needs.{needs}
 use Rattle.heap.proofs.end_batch.Statement.{statement}
 use Rattle.heap.proofs.end_batch.Tie as tie
@@ -11,11 +16,11 @@ cast-cap c = search needs
 
 -- src/lib.rt:312:9
 settle-requires : tie.Need-settle-requires
-settle-requires c κs = ?
+settle-requires c κs = settleable (c .before .before .before .before .before .before .before .before .before .before .before .before .before .before .before .pre .standing .whole)
 
 -- src/lib.rt:339:16
 add-t31 : tie.Need-add-t31
-add-t31 c = ?
+add-t31 c = let K = c .before .before .before .before .before .before .before .before .before .before .before .before .before .before .before .before .before .before .before .before .before .before .before .before .before .before .before .before .before .before .before .pre in let S = K .standing in let f = K .few in let e = end-few S (c .before .before .before .before .before .before .before .before .before .before .before .before .before .before .before .settle .ensures (sizesOf (c .before .before .before .before .before .before .before .before .before .before .before .before .before .before .before .before .before .before .before .before .before .before .before .before .before .before .before .before .before .before .before .args .head)) _ _ _ _ refl refl (S .whole) (S .whole .variables-are)) (K .fine) in omega arith
 
 -- src/lib.rt:294:1
 same-length : tie.Need-same-length
@@ -47,7 +52,7 @@ same-length-7 c = search needs
 
 -- src/lib.rt:294:1
 returns : tie.Need-returns
-returns c = ?
+returns c = λ h S. end-as S (c .before .before .before .before .before .before .before .before .before .before .before .before .before .before .before .settle .ensures (sizesOf (c .before .before .before .before .before .before .before .before .before .before .before .before .before .before .before .before .before .before .before .before .before .before .before .before .before .before .before .before .before .before .before .args .head)) _ _ _ _ refl refl (S .whole) (S .whole .variables-are))
 
 pub end-batch-spec : {M : Type 1} → statement M
 end-batch-spec =

@@ -1,3 +1,9 @@
+use Prim.Native.Nat.{_+_, _*_, _-_}
+use native.Mathlib.Omega.{arith}
+use mathlib.Core.Path.{_≡_, sym, _∙_}
+use lib.ListN.{length}
+use Rattle.rules.specs.Head.{sizesOf}
+use Rattle.heap.proofs.Loop.{Going, long-of, begun, now-at, small-i, list-long, answers-same, turnable, again, finish}
 use Rattle.heap.proofs.work_calls.Statement.{statement}
 use Rattle.heap.proofs.work_calls.Tie as tie
 use Rattle.heap.proofs.work_calls.Reads as reads
@@ -6,75 +12,65 @@ use Rattle.heap.proofs.work_turn.Reads as work-turn-reads
 
 abbrev Inv-loop : tie.InvT-loop
 Inv-loop calls kinds₀ values₀ variables₀ zct₀ mrt₀ counts₀ log₀ work₀ answers₀ head state₀ i₀ kinds values variables zct mrt counts log work answers state i =
-    ?
+    Going (sizesOf head) calls kinds₀ values₀ variables₀ zct₀ mrt₀ counts₀ log₀ work₀ answers₀ state₀ kinds values variables zct mrt counts log work answers state i
 
 abbrev μ-loop : tie.MeasureT-loop
-μ-loop calls kinds₀ values₀ variables₀ zct₀ mrt₀ counts₀ log₀ work₀ answers₀ head state₀ i₀ kinds values variables zct mrt counts log work answers state i =
-    ?
+μ-loop calls kinds₀ values₀ variables₀ zct₀ mrt₀ counts₀ log₀ work₀ answers₀ head state₀ i₀ kinds values variables zct mrt counts log work answers state i = length calls - 4 * i
 
--- src/lib.rt:272:5
 loop-holds : tie.Need-loop-holds Inv-loop μ-loop
-loop-holds c = ?
+loop-holds c =
+    let K = c .before .before .before .before .before .before .pre in
+    let z = K .none-yet in
+    record { run = K; most = omega arith; few = omega arith; progress = λ ds h e S. begun _ ds h e S }
 
--- src/lib.rt:272:11
 mul-loop : tie.Need-mul-loop Inv-loop μ-loop
-mul-loop c = ?
+mul-loop c = let k = small-i (c .loop .inv) in omega arith
 
--- src/lib.rt:273:9
 work-turn-requires : tie.Need-work-turn-requires Inv-loop μ-loop
-work-turn-requires c κs = ?
+work-turn-requires c κs = turnable (c .before .before .before .before .before .before .before .before .before .before .loop .inv) (c .before .before .before .before .before .before .before .before .before .loop-test .taken)
 
--- src/lib.rt:288:9
 add-i : tie.Need-add-i Inv-loop μ-loop
-add-i c = ?
+add-i c = let k = small-i (c .before .before .before .before .before .before .before .before .before .before .before .before .before .before .before .before .before .before .before .before .before .before .before .before .before .before .loop .inv) in omega arith
 
--- src/lib.rt:272:5
 loop-less : tie.Need-loop-less Inv-loop μ-loop
-loop-less c = ?
+loop-less c = let t = c .before .before .before .before .before .before .before .before .before .before .before .before .before .before .before .before .before .before .before .before .before .before .before .before .before .loop-test .taken in omega arith
 
--- src/lib.rt:272:5
 loop-again : tie.Need-loop-again Inv-loop μ-loop
-loop-again c = ?
+loop-again c = again (c .before .before .before .before .before .before .before .before .before .before .before .before .before .before .before .before .before .before .before .before .before .before .before .before .before .before .loop .inv) (c .before .before .before .before .before .before .before .before .before .before .before .before .before .before .before .before .before .before .before .before .before .before .before .before .before .loop-test .taken) (c .before .before .before .before .before .before .before .before .before .before .before .before .before .before .before .work-turn .ensures .0) (c .before .before .before .before .before .before .before .before .before .before .before .before .before .before .before .work-turn .ensures .1)
 
--- src/lib.rt:252:1
 same-length : tie.Need-same-length Inv-loop μ-loop
-same-length c = ?
+same-length c = long-of (now-at (c .before .loop .inv) .standing) .kinds ∙ sym (long-of (c .before .loop .inv .run .standing) .kinds)
 
--- src/lib.rt:252:1
 same-length-2 : tie.Need-same-length-2 Inv-loop μ-loop
-same-length-2 c = ?
+same-length-2 c = long-of (now-at (c .before .loop .inv) .standing) .values ∙ sym (long-of (c .before .loop .inv .run .standing) .values)
 
--- src/lib.rt:252:1
 same-length-3 : tie.Need-same-length-3 Inv-loop μ-loop
-same-length-3 c = ?
+same-length-3 c = long-of (now-at (c .before .loop .inv) .standing) .variables ∙ sym (long-of (c .before .loop .inv .run .standing) .variables)
 
--- src/lib.rt:252:1
 same-length-4 : tie.Need-same-length-4 Inv-loop μ-loop
-same-length-4 c = ?
+same-length-4 c = long-of (now-at (c .before .loop .inv) .standing) .zct ∙ sym (long-of (c .before .loop .inv .run .standing) .zct)
 
--- src/lib.rt:252:1
 same-length-5 : tie.Need-same-length-5 Inv-loop μ-loop
-same-length-5 c = ?
+same-length-5 c = long-of (now-at (c .before .loop .inv) .standing) .mrt ∙ sym (long-of (c .before .loop .inv .run .standing) .mrt)
 
--- src/lib.rt:252:1
 same-length-6 : tie.Need-same-length-6 Inv-loop μ-loop
-same-length-6 c = ?
+same-length-6 c = long-of (now-at (c .before .loop .inv) .standing) .counts ∙ sym (long-of (c .before .loop .inv .run .standing) .counts)
 
--- src/lib.rt:252:1
 same-length-7 : tie.Need-same-length-7 Inv-loop μ-loop
-same-length-7 c = ?
+same-length-7 c = long-of (now-at (c .before .loop .inv) .standing) .log ∙ sym (long-of (c .before .loop .inv .run .standing) .log)
 
--- src/lib.rt:252:1
 same-length-8 : tie.Need-same-length-8 Inv-loop μ-loop
-same-length-8 c = ?
+same-length-8 c = long-of (now-at (c .before .loop .inv) .standing) .work ∙ sym (long-of (c .before .loop .inv .run .standing) .work)
 
--- src/lib.rt:252:1
 same-length-9 : tie.Need-same-length-9 Inv-loop μ-loop
-same-length-9 c = ?
+same-length-9 c = answers-same (c .before .loop .inv)
 
--- src/lib.rt:252:1
 returns : tie.Need-returns Inv-loop μ-loop
-returns c = ?
+returns c =
+    let G = c .before .loop .inv in
+    let k = small-i G in
+    let f = G .few in
+    (omega arith, finish G (c .loop-test .left))
 
 pub work-calls-spec : {M : Type 1} → statement M
 work-calls-spec =
