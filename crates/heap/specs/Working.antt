@@ -131,3 +131,13 @@ pub record Endable (s : Sizes) (ks : List ℕ) (xs vs : List ℤ) (zs ms cs log 
 pub record Finished (s : Sizes) (h : Heap) (r : Lent) (o : Outcome) : Type 0 where
   pub rows : r ≡ rowsOf s (settled s h)
   pub is : o ≡ outcome 0 (headOf s (settled s h)) (settled s h .freed)
+
+-- a batch was worked whole: rows, head, count and answers are those of the rules
+pub record Batched (s : Sizes) (ds : List Call) (h : Heap) (r : Lent) (as′ bs : List ℤ) (o : Outcome) : Type 0 where
+  pub rows : r ≡ rowsOf s (calls s ds h .heap)
+  pub is : o ≡ outcome 0 (headOf s (calls s ds h .heap)) (calls s ds h .heap .freed)
+  pub answers : bs ≡ answered (calls s ds h .answers) as′
+
+-- where a batch starts: the log is empty
+abbrev pub startOf : Head → State
+startOf h = record { len = 0; first = h .free; used = record { zct = h .zct; mrt = h .mrt }; freed = 0 }

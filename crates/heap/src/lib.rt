@@ -16,13 +16,18 @@ ghost use Rattle.rules.specs.Rows.{lent};
 ghost use Rattle.rules.specs.Refusals.{leaves, leavesWith, freshOf, auditOf, batchOf};
 ghost use Rattle.calls.specs.Words.{callAt};
 ghost use Rattle.calls.specs.Seen.{needs};
-ghost use Rattle.heap.specs.Working.{wants, valued, LeftBy, Standing, Workable, Answered, Callable, Turnable, Turned, Runnable, Ran, Endable, Finished};
+ghost use Rattle.heap.specs.Working.{wants, valued, LeftBy, Standing, Workable, Answered, Callable, Turnable, Turned, Runnable, Ran, Endable, Finished, Batched, startOf};
+use audit::answer;
+use audit::sized;
+use audit::sound;
 use calls::Acted;
 use calls::Decoded;
 use calls::act;
 use calls::call_at;
+use calls::calls_right;
 use calls::check;
 use calls::need;
+use cells::fresh_rows;
 use cells::value_of;
 use rules::Call;
 use rules::Head;
@@ -338,4 +343,179 @@ pub fn end_batch(
         head: next,
         count: freed + r.freed,
     }
+}
+
+// Where a batch starts.
+pub fn start(head: Head) -> State
+    ensures { λ r. ⌜ r ≡ startOf head ⌝ }
+{
+    let used = Used {
+        zct: head.zct,
+        mrt: head.mrt,
+    };
+    State {
+        len: 0,
+        first: head.free,
+        used: used,
+        freed: 0,
+    }
+}
+
+// A batch that passed every check.
+pub fn run_batch(
+    calls: &[i32],
+    kinds: &mut [u8],
+    values: &mut [i32],
+    variables: &mut [i32],
+    zct: &mut [u32],
+    mrt: &mut [u32],
+    counts: &mut [u32],
+    log: &mut [u32],
+    work: &mut [u32],
+    answers: &mut [i32],
+    head: Head,
+) -> Outcome
+    requires { ⌜ Runnable (sizesOf head) (now calls) (now kinds) (now values) (now variables) (now zct) (now mrt) (now counts) (now log) (now work) (now answers) (startOf head) ⌝ }
+    ensures { λ r. ⌜ ((ds : List Call) (h : Heap) → callsIn (head .m) (now (calls .entry)) ≡ some ds → Standing (sizesOf head) (now (kinds .entry)) (now (values .entry)) (now (variables .entry)) (now (zct .entry)) (now (mrt .entry)) (now (counts .entry)) (now (log .entry)) (now (work .entry)) (startOf head) h → Batched (sizesOf head) ds h (lent (now (kinds .exit)) (now (values .exit)) (now (variables .exit)) (now (zct .exit)) (now (mrt .exit)) (now (counts .exit)) (now (log .exit)) (now (work .exit))) (now (answers .entry)) (now (answers .exit)) r) ⌝ }
+{
+    let at = start(head);
+    let state = work_calls(
+        calls,
+        kinds,
+        values,
+        variables,
+        zct,
+        mrt,
+        counts,
+        log,
+        work,
+        answers,
+        head,
+        at,
+    );
+    end_batch(
+        kinds,
+        values,
+        variables,
+        zct,
+        mrt,
+        counts,
+        log,
+        work,
+        head,
+        state,
+    )
+}
+
+// ---- the entry points: no requires, one outcome for each input
+
+// A fresh heap of the four sizes, written into the rows: 0 and its head, or 1 and a head of zeros.
+pub fn fresh(
+    n: usize,
+    m: usize,
+    l: usize,
+    cap: usize,
+    kinds: &mut [u8],
+    values: &mut [i32],
+    variables: &mut [i32],
+    zct: &mut [u32],
+    mrt: &mut [u32],
+    counts: &mut [u32],
+    log: &mut [u32],
+    work: &mut [u32],
+) -> Outcome
+    ensures { λ r.
+        ⌜ leaves r (lent (now (kinds .exit)) (now (values .exit)) (now (variables .exit)) (now (zct .exit)) (now (mrt .exit)) (now (counts .exit)) (now (log .exit)) (now (work .exit)))
+        ≡ freshOf n m l cap (lent (now (kinds .entry)) (now (values .entry)) (now (variables .entry)) (now (zct .entry)) (now (mrt .entry)) (now (counts .entry)) (now (log .entry)) (now (work .entry))) ⌝ }
+{
+    let head = Head::fresh(n, m, l, cap);
+    if !sized(
+        head,
+        kinds.len(),
+        values.len(),
+        variables.len(),
+        zct.len(),
+        mrt.len(),
+        counts.len(),
+        log.len(),
+        work.len(),
+    ) {
+        return answer(1, Head::fresh(0, 0, 0, 0));
+    }
+    fresh_rows(kinds, values, variables, zct, mrt, counts, log, work, n);
+    answer(0, head)
+}
+
+// Is the heap sound? 0 for yes; 1 where a number or a length is outside its limits, else 4.
+pub fn audit(
+    head: Head,
+    kinds: &[u8],
+    values: &[i32],
+    variables: &[i32],
+    zct: &[u32],
+    mrt: &[u32],
+    counts: &[u32],
+    log: &[u32],
+    work: &mut [u32],
+) -> Outcome
+    ensures { λ r.
+        ⌜ leaves r (lent (now (kinds .exit)) (now (values .exit)) (now (variables .exit)) (now (zct .exit)) (now (mrt .exit)) (now (counts .exit)) (now (log .exit)) (now (work .exit)))
+        ≡ auditOf head (lent (now (kinds .entry)) (now (values .entry)) (now (variables .entry)) (now (zct .entry)) (now (mrt .entry)) (now (counts .entry)) (now (log .entry)) (now (work .entry))) ⌝ }
+{
+    audit::audit(head, kinds, values, variables, zct, mrt, counts, log, work)
+}
+
+// A batch of calls, four words each; their answers, two words each, go into the answers row.
+pub fn batch(
+    head: Head,
+    kinds: &mut [u8],
+    values: &mut [i32],
+    variables: &mut [i32],
+    zct: &mut [u32],
+    mrt: &mut [u32],
+    counts: &mut [u32],
+    log: &mut [u32],
+    work: &mut [u32],
+    calls: &[i32],
+    answers: &mut [i32],
+) -> Outcome
+    ensures { λ r.
+        ⌜ leavesWith r (lent (now (kinds .exit)) (now (values .exit)) (now (variables .exit)) (now (zct .exit)) (now (mrt .exit)) (now (counts .exit)) (now (log .exit)) (now (work .exit))) (now (answers .exit))
+        ≡ batchOf head (lent (now (kinds .entry)) (now (values .entry)) (now (variables .entry)) (now (zct .entry)) (now (mrt .entry)) (now (counts .entry)) (now (log .entry)) (now (work .entry))) (now (calls .entry)) (now (answers .entry)) ⌝ }
+{
+    if !sized(
+        head,
+        kinds.len(),
+        values.len(),
+        variables.len(),
+        zct.len(),
+        mrt.len(),
+        counts.len(),
+        log.len(),
+        work.len(),
+    ) {
+        return answer(1, head);
+    }
+    if !calls_right(calls, head.m) {
+        return answer(2, head);
+    }
+    if answers.len() < calls.len() / 2 {
+        return answer(3, head);
+    }
+    if !sound(head, kinds, values, variables, zct, mrt, counts, log, work) {
+        return answer(4, head);
+    }
+    run_batch(
+        calls,
+        kinds,
+        values,
+        variables,
+        zct,
+        mrt,
+        counts,
+        log,
+        work,
+        answers,
+        head,
+    )
 }
