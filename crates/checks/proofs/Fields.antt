@@ -1,5 +1,5 @@
 -- Laws of a word: what it is to be, by its kind. A word that was read came through its bits, as `y`. Assumes nothing.
-use Prim.Native.Nat.{ℕ, zero, suc, _<_, _^_}
+use Prim.Native.Nat.{ℕ, zero, suc, _<_, _≤_, _^_}
 use mathlib.Core.Path.{_≡_, refl, sym, ap, _∙_}
 use mathlib.Core.Bool.{Bool}
 use mathlib.Core.List.{List}
@@ -8,7 +8,8 @@ use lib.IntN.{ℤ, pos, negsuc}
 use lib.Signed.{mag}
 use Rattle.rules.specs.Head.{Says}
 use Rattle.rules.specs.Field.{addressOf}
-use Rattle.rules.specs.Sound.{Live, Mark, Word}
+use Rattle.rules.specs.Sound.{kind, word, Live, Mark, Word, WordAt}
+use Rattle.checks.specs.CellRows.{WordIn}
 
 nought : (x : ℤ) → addressOf 1 x ≡ 0 → x ≡ pos 0
 nought (pos a) e = ap pos e
@@ -42,3 +43,32 @@ word-else n a f (suc zero) ks x p q r s w = q refl
 word-else n a f (suc (suc zero)) ks x p q r s w = r refl
 word-else n a f (suc (suc (suc zero))) ks x p q r s w = s refl
 word-else n a f (suc (suc (suc (suc k)))) ks x p q r s w = w
+
+-- ---- what each row shows
+
+kind-most : (n a f k : ℕ) (ks : List ℕ) (x : ℤ) → Word n ks a f k x → k ≤ 3
+unfolding Word
+kind-most n a f zero ks x w = omega arith
+kind-most n a f (suc zero) ks x w = omega arith
+kind-most n a f (suc (suc zero)) ks x w = omega arith
+kind-most n a f (suc (suc (suc zero))) ks x w = omega arith
+kind-most n a f (suc (suc (suc (suc k)))) ks x w = absurd w
+
+module _ (n : ℕ) (ks : List ℕ) (vs : List ℤ) (a f : ℕ) where
+  pub in-row : (row : ℕ) → WordAt n ks vs a f → WordIn n ks vs row a f
+  unfolding WordIn
+  in-row zero w = kind-most n a f (kind ks a f) ks (word vs a f) w
+  in-row (suc row) w = w
+
+  pub in-last : WordIn n ks vs 1 a f → WordAt n ks vs a f
+  unfolding WordIn
+  in-last w = w
+
+  pub row-0 : (row : ℕ) → row ≡ 0 → {r : Bool} → Says r (kind ks a f ≤ 3) → Says r (WordIn n ks vs row a f)
+  unfolding WordIn
+  row-0 row e s = rw e s
+
+  pub row-1 : (row : ℕ) → (row ≡ 0 → ⊥) → {r : Bool} → Says r (WordAt n ks vs a f) → Says r (WordIn n ks vs row a f)
+  unfolding WordIn
+  row-1 zero d s = absurd (d refl)
+  row-1 (suc row) d s = s

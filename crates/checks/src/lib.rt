@@ -5,7 +5,7 @@ ghost use lib.ListN.{length, getD, replicate};
 ghost use lib.IntN.{pos};
 ghost use Rattle.rules.specs.Head.{Says};
 ghost use Rattle.rules.specs.Sound.{mark, Live, Mark, WordAt, Words, Variable, Variables, TableRow, ZeroFrom, At, Ranged, pointsTo};
-ghost use Rattle.checks.specs.CellRows.{CellRows};
+ghost use Rattle.checks.specs.CellRows.{CellRows, WordIn};
 ghost use Rattle.checks.specs.Walk.{Walked, AllMet};
 ghost use Rattle.checks.specs.Counts.{Counted, Agree, TablesReady, AllHeld, Within};
 use cells::address_or;
@@ -69,23 +69,42 @@ pub fn word(kinds: &[u8], values: &[i32], n: usize, a: usize, f: usize) -> bool
     }
 }
 
-// Is every word as it is to be? Left at the first that isn't.
+// Does a row, 0 for kinds or 1 for values, show field f of cell a as it is to be?
+pub fn word_in(kinds: &[u8], values: &[i32], n: usize, row: usize, a: usize, f: usize) -> bool
+    requires { ⌜ CellRows n (now kinds) (now values) ⌝ }
+    requires { ⌜ (a < n) × (f < 2) ⌝ }
+    ensures { λ r. ⌜ Says r (WordIn n (now (kinds .entry)) (now (values .entry)) row a f) ⌝ }
+{
+    if row != 0 {
+        return word(kinds, values, n, a, f);
+    }
+    if kinds[2 * a + f] > 3 {
+        return false;
+    }
+    true
+}
+
+// Is every word of both rows as it is to be? Left at the first that isn't.
 pub fn words(kinds: &[u8], values: &[i32], n: usize) -> bool
     requires { ⌜ CellRows n (now kinds) (now values) ⌝ }
     ensures { λ r. ⌜ Says r (Words n (now (kinds .entry)) (now (values .entry))) ⌝ }
 {
     let mut sound = true;
-    let mut a = 0;
-    'cells: while a < n {
-        let mut f = 0;
-        while f < 2 {
-            if !word(kinds, values, n, a, f) {
-                sound = false;
-                break 'cells;
+    let mut row = 0;
+    'rows: while row < 2 {
+        let mut a = 0;
+        while a < n {
+            let mut f = 0;
+            while f < 2 {
+                if !word_in(kinds, values, n, row, a, f) {
+                    sound = false;
+                    break 'rows;
+                }
+                f += 1;
             }
-            f += 1;
+            a += 1;
         }
-        a += 1;
+        row += 1;
     }
     sound
 }
@@ -340,7 +359,7 @@ pub fn variable(kinds: &[u8], n: usize, x: i32) -> bool
     live(kinds, n, t)
 }
 
-// Are all variables' values such?
+// Are all the variables' words such?
 pub fn variables(kinds: &[u8], n: usize, variables: &[i32]) -> bool
     requires { ⌜ (length (now kinds) ≡ 2 * n) × (n ≤ 1024) ⌝ }
     ensures { λ r. ⌜ Says r (Variables n (now (kinds .entry)) (now (variables .entry))) ⌝ }

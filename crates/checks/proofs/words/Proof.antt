@@ -1,5 +1,6 @@
 use Rattle.rules.proofs.Answers.{isn't, truly}
-use Rattle.rules.specs.Sound.{WordAt}
+use Rattle.checks.proofs.Fields.{in-row, in-last}
+use Rattle.checks.specs.CellRows.{WordIn}
 use borrow.Author.Tests.{not-true, not-false}
 use native.Mathlib.Omega.{arith}
 use borrow.Author.Needs.{needs}
@@ -10,67 +11,91 @@ use Prim.Native.Nat.{ℕ, _≤_, _-_, _<_}
 use Rattle.checks.proofs.words.Statement.{statement}
 use Rattle.checks.proofs.words.Tie as tie
 
+abbrev Inv-loop2 : tie.InvT-loop2
+Inv-loop2 kinds values n sound₀ row a f₀ sound f = (f ≤ 2) × ((sound ≡ true) × ((g : ℕ) → g < f → WordIn n kinds values row a g))
+
+abbrev μ-loop2 : tie.MeasureT-loop2
+μ-loop2 kinds values n sound₀ row a f₀ sound f = 2 - f
+
 abbrev Inv-loop : tie.InvT-loop
-Inv-loop kinds values n sound₀ a f₀ sound f = (f ≤ 2) × ((sound ≡ true) × ((g : ℕ) → g < f → WordAt n kinds values a g))
+Inv-loop kinds values n sound₀ row a₀ sound a = (a ≤ n) × ((sound ≡ true) × ((b : ℕ) → b < a → (g : ℕ) → g < 2 → WordIn n kinds values row b g))
 
 abbrev μ-loop : tie.MeasureT-loop
-μ-loop kinds values n sound₀ a f₀ sound f = 2 - f
+μ-loop kinds values n sound₀ row a₀ sound a = n - a
 
-abbrev Inv-cells : tie.InvT-cells
-Inv-cells kinds values n sound₀ a₀ sound a = (a ≤ n) × ((sound ≡ true) × ((b : ℕ) → b < a → (g : ℕ) → g < 2 → WordAt n kinds values b g))
+abbrev Inv-rows : tie.InvT-rows
+Inv-rows kinds values n sound₀ row₀ sound row = (row ≤ 2) × ((sound ≡ true) × ((r : ℕ) → r < row → (b : ℕ) → b < n → (g : ℕ) → g < 2 → WordIn n kinds values r b g))
 
-abbrev μ-cells : tie.MeasureT-cells
-μ-cells kinds values n sound₀ a₀ sound a = n - a
+abbrev μ-rows : tie.MeasureT-rows
+μ-rows kinds values n sound₀ row₀ sound row = 2 - row
 
-cells-holds : tie.Need-cells-holds Inv-loop μ-loop Inv-cells μ-cells
-cells-holds c = (omega arith, (refl, λ b h. absurd (omega arith)))
+rows-holds : tie.Need-rows-holds Inv-loop2 μ-loop2 Inv-loop μ-loop Inv-rows μ-rows
+rows-holds c = (omega arith, (refl, λ r h. absurd (omega arith)))
 
-loop-holds : tie.Need-loop-holds Inv-loop μ-loop Inv-cells μ-cells
-loop-holds c = (omega arith, (c .before .cells .inv .1 .0, λ g h. absurd (omega arith)))
+loop-holds : tie.Need-loop-holds Inv-loop2 μ-loop2 Inv-loop μ-loop Inv-rows μ-rows
+loop-holds c = (omega arith, (c .before .rows .inv .1 .0, λ b h. absurd (omega arith)))
 
-word-requires : tie.Need-word-requires Inv-loop μ-loop Inv-cells μ-cells
-word-requires c κs = search needs
+loop2-holds : tie.Need-loop2-holds Inv-loop2 μ-loop2 Inv-loop μ-loop Inv-rows μ-rows
+loop2-holds c = (omega arith, (c .before .loop .inv .1 .0, λ g h. absurd (omega arith)))
 
-add-f : tie.Need-add-f Inv-loop μ-loop Inv-cells μ-cells
+word-in-requires : tie.Need-word-in-requires Inv-loop2 μ-loop2 Inv-loop μ-loop Inv-rows μ-rows
+word-in-requires c κs = search needs
+
+add-f : tie.Need-add-f Inv-loop2 μ-loop2 Inv-loop μ-loop Inv-rows μ-rows
 add-f c = omega arith
 
-loop-less : tie.Need-loop-less Inv-loop μ-loop Inv-cells μ-cells
-loop-less c = omega arith
+loop2-less : tie.Need-loop2-less Inv-loop2 μ-loop2 Inv-loop μ-loop Inv-rows μ-rows
+loop2-less c = omega arith
 
-loop-again : tie.Need-loop-again Inv-loop μ-loop Inv-cells μ-cells
-loop-again c = (omega arith, (c .before .before .before .loop .inv .1 .0, below-more _ _ (c .before .before .before .loop .inv .1 .1) (c .before .word .ensures .yes (not-false _ (c .if1 .left)))))
+loop2-again : tie.Need-loop2-again Inv-loop2 μ-loop2 Inv-loop μ-loop Inv-rows μ-rows
+loop2-again c = (omega arith, (c .before .before .before .loop2 .inv .1 .0, below-more _ _ (c .before .before .before .loop2 .inv .1 .1) (c .before .word-in .ensures .yes (not-false _ (c .if1 .left)))))
 
-add-a : tie.Need-add-a Inv-loop μ-loop Inv-cells μ-cells
+add-a : tie.Need-add-a Inv-loop2 μ-loop2 Inv-loop μ-loop Inv-rows μ-rows
 add-a c = omega arith
 
-cells-less : tie.Need-cells-less Inv-loop μ-loop Inv-cells μ-cells
-cells-less c = omega arith
+loop-less : tie.Need-loop-less Inv-loop2 μ-loop2 Inv-loop μ-loop Inv-rows μ-rows
+loop-less c = omega arith
 
-cells-again : tie.Need-cells-again Inv-loop μ-loop Inv-cells μ-cells
-cells-again c = (omega arith, (c .before .loop .inv .1 .0, below-more _ _ (c .before .before .before .cells .inv .1 .1) (λ g h. c .before .loop .inv .1 .1 g (omega arith))))
+loop-again : tie.Need-loop-again Inv-loop2 μ-loop2 Inv-loop μ-loop Inv-rows μ-rows
+loop-again c = (omega arith, (c .before .loop2 .inv .1 .0, below-more _ _ (c .before .before .before .loop .inv .1 .1) (λ g h. c .before .loop2 .inv .1 .1 g (omega arith))))
 
-returns : tie.Need-returns Inv-loop μ-loop Inv-cells μ-cells
-returns c = truly (c .before .cells .inv .1 .0) (λ b h. c .before .cells .inv .1 .1 b (omega arith))
+add-row : tie.Need-add-row Inv-loop2 μ-loop2 Inv-loop μ-loop Inv-rows μ-rows
+add-row c = omega arith
 
-returns-2 : tie.Need-returns-2 Inv-loop μ-loop Inv-cells μ-cells
-returns-2 c = isn't (λ w. c .before .word .ensures .no (not-true _ (c .if1 .taken)) (w _ (c .before .before .before .before .cells-test .taken) _ (c .before .before .loop-test .taken)))
+rows-less : tie.Need-rows-less Inv-loop2 μ-loop2 Inv-loop μ-loop Inv-rows μ-rows
+rows-less c = omega arith
+
+rows-again : tie.Need-rows-again Inv-loop2 μ-loop2 Inv-loop μ-loop Inv-rows μ-rows
+rows-again c = (omega arith, (c .before .loop .inv .1 .0, below-more _ _ (c .before .before .before .rows .inv .1 .1) (λ b h. c .before .loop .inv .1 .1 b (omega arith))))
+
+returns : tie.Need-returns Inv-loop2 μ-loop2 Inv-loop μ-loop Inv-rows μ-rows
+returns c = truly (c .before .rows .inv .1 .0) (λ b h g k. in-last _ _ _ _ _ (c .before .rows .inv .1 .1 1 (omega arith) b h g k))
+
+returns-2 : tie.Need-returns-2 Inv-loop2 μ-loop2 Inv-loop μ-loop Inv-rows μ-rows
+returns-2 c = isn't (λ w. c .before .word-in .ensures .no (not-true _ (c .if1 .taken)) (in-row _ _ _ _ _ _ (w _ (c .before .before .before .before .loop-test .taken) _ (c .before .before .loop2-test .taken))))
 
 pub words-spec : {M : Type 1} → statement M
 words-spec =
     tie.close
     (tie.spec
+    Inv-loop2
+    μ-loop2
     Inv-loop
     μ-loop
-    Inv-cells
-    μ-cells
-    cells-holds
+    Inv-rows
+    μ-rows
+    rows-holds
     loop-holds
-    word-requires
+    loop2-holds
+    word-in-requires
     add-f
+    loop2-less
+    loop2-again
+    add-a
     loop-less
     loop-again
-    add-a
-    cells-less
-    cells-again
+    add-row
+    rows-less
+    rows-again
     returns
     returns-2)
