@@ -1,0 +1,63 @@
+-- Nothing has to hold from turn to turn; the place nears the row's end.
+use Prim.Native.Nat.{_-_}
+use borrow.Author.Needs.{needs}
+use lib.ListN.{length}
+use Rattle.cases.proofs.show.signed_row.Statement.{statement}
+use Rattle.cases.proofs.show.signed_row.Tie as tie
+
+abbrev Inv-loop : tie.InvT-loop
+Inv-loop name row i₀ t5 i = Unit {0}
+
+abbrev μ-loop : tie.MeasureT-loop
+μ-loop name row i₀ t5 i = length row - i
+
+put-requires : tie.Need-put-requires Inv-loop μ-loop
+put-requires c κs = search needs
+
+loop-holds : tie.Need-loop-holds Inv-loop μ-loop
+loop-holds c = search needs
+
+mul-x : tie.Need-mul-x Inv-loop μ-loop
+mul-x c = search needs
+
+shared-slice-copy-out-x : tie.Need-shared-slice-copy-out-x Inv-loop μ-loop
+shared-slice-copy-out-x c = search needs
+
+signed-requires : tie.Need-signed-requires Inv-loop μ-loop
+signed-requires c κs = search needs
+
+add-i : tie.Need-add-i Inv-loop μ-loop
+add-i c = search needs
+
+loop-less : tie.Need-loop-less Inv-loop μ-loop
+loop-less c = search needs
+
+loop-again : tie.Need-loop-again Inv-loop μ-loop
+loop-again c = search needs
+
+slice-aggregate-put : tie.Need-slice-aggregate-put Inv-loop μ-loop
+slice-aggregate-put c = search needs
+
+put-requires-2 : tie.Need-put-requires-2 Inv-loop μ-loop
+put-requires-2 c κs = search needs
+
+returns : tie.Need-returns Inv-loop μ-loop
+returns c = search needs
+
+pub signed-row-spec : {M : Type 1} → statement M
+signed-row-spec =
+    tie.close
+    (tie.spec
+    Inv-loop
+    μ-loop
+    put-requires
+    loop-holds
+    mul-x
+    shared-slice-copy-out-x
+    signed-requires
+    add-i
+    loop-less
+    loop-again
+    slice-aggregate-put
+    put-requires-2
+    returns)

@@ -1,0 +1,226 @@
+// Reading: lines, numbers, and what the lines with a head, lengths, calls and an answers row set.
+ghost use Prim.Native.Nat.{_≤_, _<_};
+ghost use lib.ListN.{length};
+use rules::Head;
+
+// What goes from line to line beside the rows: the head, and how much of the calls and of the answers is used.
+pub struct State {
+    pub head: Head,
+    pub calls: usize,
+    pub answers: usize,
+}
+
+// A number that was read, and the place past it.
+pub struct Numeral {
+    pub next: usize,
+    pub minus: bool,
+    pub size: usize,
+}
+
+pub fn start() -> State {
+    let head = Head::fresh(0, 0, 0, 0);
+    State {
+        head: head,
+        calls: 0,
+        answers: 0,
+    }
+}
+
+// The place past the next line end, or the text's end.
+pub fn next_line(text: &[u8], from: usize) -> usize
+    requires { ⌜ from < length (now text) ⌝ }
+    ensures { λ r. ⌜ (from < r) × (r ≤ length (now (text .entry))) ⌝ }
+{
+    let mut at = from;
+    while at < text.len() {
+        if text[at] == b'\n' {
+            return at + 1;
+        }
+        at += 1;
+    }
+    at
+}
+
+// The place of the next line of lengths, or the text's end.
+pub fn section_end(text: &[u8], from: usize) -> usize
+    requires { ⌜ from < length (now text) ⌝ }
+    ensures { λ r. ⌜ (from < r) × (r ≤ length (now (text .entry))) ⌝ }
+{
+    let mut at = next_line(text, from);
+    while at < text.len() {
+        if text[at] == b'r' {
+            return at;
+        }
+        at = next_line(text, at);
+    }
+    at
+}
+
+// Is this byte at this place of the line?
+fn is_at(line: &[u8], at: usize, byte: u8) -> bool {
+    if at < line.len() {
+        line[at] == byte
+    } else {
+        false
+    }
+}
+
+// The number with one more digit; what is no digit, or too much, adds none.
+fn with_digit(size: usize, byte: u8) -> usize {
+    if byte < 48 {
+        return size;
+    }
+    if 57 < byte {
+        return size;
+    }
+    if 1000000000000 < size {
+        return size;
+    }
+    10 * size + wide(byte - 48)
+}
+
+fn wide(byte: u8) -> usize
+    ensures { λ r. ⌜ r < 256 ⌝ }
+{
+    byte as usize
+}
+
+// The digits from a place up to the next space or line end.
+fn digits(line: &[u8], from: usize, minus: bool) -> Numeral {
+    let mut at = from;
+    let mut size = 0;
+    while at < line.len() {
+        let byte = line[at];
+        if byte <= b' ' {
+            break;
+        }
+        size = with_digit(size, byte);
+        at += 1;
+    }
+    Numeral {
+        next: at,
+        minus: minus,
+        size: size,
+    }
+}
+
+// The number that stands after one space.
+pub fn number(line: &[u8], from: usize) -> Numeral {
+    let at = past(line, from, b' ');
+    let next = past(line, at, b'-');
+    digits(line, next, at < next)
+}
+
+// The place past this byte, if it is here.
+fn past(line: &[u8], at: usize, byte: u8) -> usize {
+    if at < line.len() {
+        if line[at] == byte {
+            return at + 1;
+        }
+    }
+    at
+}
+
+// The number as a signed word; what has more bits is the least word, -2147483648.
+pub fn word(n: Numeral) -> i32 {
+    let size = n.size;
+    if 2147483647 < size {
+        return i32::MIN;
+    }
+    let up = size as i32;
+    if n.minus { 0 - up } else { up }
+}
+
+// The row's numbers, from a place of the line on.
+fn sizes(line: &[u8], from: usize, out: &mut [usize]) {
+    let mut at = from;
+    let mut n = 0;
+    while n < out.len() {
+        let w = number(line, at);
+        out[n] = w.size;
+        at = w.next;
+        n += 1;
+    }
+}
+
+// Signed words into a row, from a place of the line on: as many as the line and the row have, which is the answer.
+fn words(line: &[u8], from: usize, out: &mut [i32]) -> usize {
+    let mut at = from;
+    let mut n = 0;
+    while n < out.len() && is_at(line, at, b' ') {
+        let w = number(line, at);
+        let x = word(w);
+        out[n] = x;
+        at = w.next;
+        n += 1;
+    }
+    n
+}
+
+// h n m l cap free zct mrt
+pub fn head_line(line: &[u8], mut s: State) -> State {
+    let mut w = [0usize; 7];
+    sizes(line, 1, &mut w);
+    let head = Head {
+        n: w[0],
+        m: w[1],
+        l: w[2],
+        cap: w[3],
+        free: w[4],
+        zct: w[5],
+        mrt: w[6],
+    };
+    s.head = head;
+    s
+}
+
+// r k v x z m c l w: the lengths. All are 0 where the text does not begin so.
+pub fn lengths(text: &[u8]) -> [usize; 8] {
+    let mut w = [0usize; 8];
+    if is_at(text, 0, b'r') {
+        sizes(text, 1, &mut w);
+    }
+    w
+}
+
+// c WORDS.. or c+ WORDS..
+pub fn calls_line(line: &[u8], mut s: State, calls: &mut [i32]) -> State {
+    if is_at(line, 1, b'+') {
+        let k = s.calls;
+        if k <= calls.len() {
+            let more = words(line, 2, &mut calls[k..]);
+            s.calls = total(k, more);
+        }
+        return s;
+    }
+    s.calls = words(line, 1, calls);
+    s
+}
+
+// The sum of two lengths; 0 where one is more than any row has.
+fn total(a: usize, b: usize) -> usize {
+    if 4096 < a {
+        return 0;
+    }
+    if 4096 < b {
+        return 0;
+    }
+    a + b
+}
+
+// a LENGTH
+pub fn answers_line(line: &[u8], mut s: State, answers: &mut [i32]) -> State {
+    let k = number(line, 1);
+    s.answers = k.size;
+    fill(answers);
+    s
+}
+
+// Every word -7.
+fn fill(row: &mut [i32]) {
+    let mut i = 0;
+    while i < row.len() {
+        row[i] = -7;
+        i += 1;
+    }
+}
