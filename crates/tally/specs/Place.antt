@@ -1,5 +1,4 @@
 -- What the reading of a batch leaves true of how far a script is read. Assumes nothing.
-use mathlib.Core.Path.{_≡_}
 use Prim.Native.Nat.{ℕ, _+_, _<_, _≤_}
 use Rattle.tally.specs.declared.Place.{Place}
 

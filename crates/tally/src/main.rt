@@ -1,6 +1,6 @@
 // The text program: a script of calls from standard input, run on a heap; its answers and the heap at the end.
 ghost use mathlib.Core.Path.{_≡_};
-ghost use Prim.Native.Nat.{_+_, _*_, _<_, _≤_};
+ghost use Prim.Native.Nat.{_<_, _≤_};
 ghost use lib.IntN.{natAbs};
 ghost use lib.ListN.{length};
 ghost use Rattle.tally.specs.Place.{Gathered};
