@@ -10,7 +10,6 @@ use Rattle.rules.specs.declared.Head.{Head}
 use Rattle.rules.specs.declared.Call.{Call}
 use Rattle.rules.specs.declared.Outcome.{Outcome}
 use Rattle.rules.specs.Head.{Limits, Sizes, sizesOf, freshHead, zeroHead}
-use Rattle.rules.specs.Settle.{Heap, settled}
 use Rattle.rules.specs.Call.{callsIn}
 use Rattle.rules.specs.Step.{calls, batch, fresh}
 use Rattle.rules.specs.Rows.{Lent, lent, rowsOf, headOf, heapOf}
@@ -23,8 +22,7 @@ use Rattle.rules.proofs.Demand1.{fresh-refused, fresh-accepted}
 use Rattle.rules.proofs.Entry.{entry-ended}
 use Rattle.rules.proofs.Whole.{whole-at}
 use Rattle.calls.proofs.Listing.{listed}
-use Rattle.heap.specs.declared.State.{State}
-use Rattle.heap.specs.Working.{Standing, Runnable, Ran, Endable, Finished, Batched as Done, startOf}
+use Rattle.working.specs.Working.{Standing, Runnable, Batched as Done, startOf}
 
 -- what the first check found out
 pub sized-is : {h : Head} {ks : List ℕ} {xs vs : List ℤ} {zs ms cs log work : List ℕ}
@@ -92,16 +90,6 @@ module _ {h : Head} {r : Lent} (ws row : List ℤ) (Z : Sized h r) (S : Sound h 
       let c : Callable h ws row = record { calls = ds; decoded = e; room = l } in
       let b = demand-2 .by-the-rules h r ws row ds e (demand-1 .accepted-else h r ws row Z c S) in
       rw (b, D .rows, D .is, D .answers)
-
--- ---- the calls and the settle at the end together
-
-module _ {s : Sizes} (F : Fine s) {ds : List Call} {h : Heap} {ks : List ℕ} {xs vs : List ℤ} {zs ms cs log work : List ℕ} {as′ bs : List ℤ} {st : State}
-    (R : Ran s ds h ks xs vs zs ms cs log work as′ bs st) where
-  pub endable : st .freed ≤ 262144 → Endable s ks xs vs zs ms cs log work st
-  endable f = record { fine = F; heap = R .heap; standing = R .standing; few = omega arith }
-
-  pub batched : {q : Lent} {o : Outcome} → Finished s (R .heap) q o → Done s ds h q as′ bs o
-  batched D = record { rows = D .rows ∙ ap (rowsOf s) (sym (R .ends)); is = rw (R .ends) (D .is); answers = R .answers }
 
 -- ---- fresh
 

@@ -12,29 +12,29 @@ use Rattle.audit.proofs.sized.Reads as sized-reads
 use Rattle.cells.proofs.fresh_rows.Reads as fresh-rows-reads
 use Rattle.rules.proofs.Head.fresh.Reads as fresh-reads
 
--- src/lib.rt:385:9
+-- src/lib.rt:-13:9
 fresh-requires : tie.Need-fresh-requires
 fresh-requires c κs = search needs
 
--- src/lib.rt:386:9
+-- src/lib.rt:-12:9
 sized-requires : tie.Need-sized-requires
 sized-requires c κs = search needs
 
--- src/lib.rt:397:26
+-- src/lib.rt:-1:26
 fresh-requires-2 : tie.Need-fresh-requires-2
 fresh-requires-2 c κs = search needs
 
--- src/lib.rt:397:9
+-- src/lib.rt:-1:9
 answer-requires : tie.Need-answer-requires
 answer-requires c κs = search needs
 
--- src/lib.rt:397:9
+-- src/lib.rt:-1:9
 returns : tie.Need-returns
 returns c =
     let says = rw (c .before .before .before .before .fresh .ensures) at (c .before .before .before .sized .ensures) in
     rw (c .answer .ensures, c .before .fresh2 .ensures) (fresh-no (λ z. says .no (not-true _ (c .before .before .if1 .taken)) (z .limits, z .lengths)))
 
--- src/lib.rt:399:5
+-- src/lib.rt:1:5
 fresh-rows-requires : tie.Need-fresh-rows-requires
 fresh-rows-requires c κs =
     let says = rw (c .before .before .before .before .before .before .before .before .before .before .fresh .ensures) at (c .before .before .before .before .before .before .before .before .before .sized .ensures) in
@@ -50,43 +50,43 @@ fresh-rows-requires c κs =
       work-long = L .for-work;
     }
 
--- src/lib.rt:400:5
+-- src/lib.rt:2:5
 answer-requires-2 : tie.Need-answer-requires-2
 answer-requires-2 c κs = search needs
 
--- src/lib.rt:367:1
+-- src/lib.rt:-31:1
 same-length : tie.Need-same-length
 same-length c = search needs
 
--- src/lib.rt:367:1
+-- src/lib.rt:-31:1
 same-length-2 : tie.Need-same-length-2
 same-length-2 c = search needs
 
--- src/lib.rt:367:1
+-- src/lib.rt:-31:1
 same-length-3 : tie.Need-same-length-3
 same-length-3 c = search needs
 
--- src/lib.rt:367:1
+-- src/lib.rt:-31:1
 same-length-4 : tie.Need-same-length-4
 same-length-4 c = search needs
 
--- src/lib.rt:367:1
+-- src/lib.rt:-31:1
 same-length-5 : tie.Need-same-length-5
 same-length-5 c = search needs
 
--- src/lib.rt:367:1
+-- src/lib.rt:-31:1
 same-length-6 : tie.Need-same-length-6
 same-length-6 c = search needs
 
--- src/lib.rt:367:1
+-- src/lib.rt:-31:1
 same-length-7 : tie.Need-same-length-7
 same-length-7 c = search needs
 
--- src/lib.rt:367:1
+-- src/lib.rt:-31:1
 same-length-8 : tie.Need-same-length-8
 same-length-8 c = search needs
 
--- src/lib.rt:367:1
+-- src/lib.rt:-31:1
 returns-2 : tie.Need-returns-2
 returns-2 c =
     let says = rw (c .before .before .before .before .before .before .before .before .before .before .before .before .before .before .before .before .before .before .before .before .before .before .before .before .before .before .fresh .ensures) at (c .before .before .before .before .before .before .before .before .before .before .before .before .before .before .before .before .before .before .before .before .before .before .before .before .before .sized .ensures) in

@@ -3,57 +3,57 @@ use native.Mathlib.Omega.{arith}
 use Prim.Native.Nat.{_+_, _≤_}
 use lib.ListN.{length}
 use Rattle.rules.specs.Head.{sizesOf}
-use Rattle.heap.proofs.Steps.{reaches, shown, refused-as, few, needs-two, can-act, few-now, answered-as}
+use Rattle.working.proofs.Steps.{reaches, shown, refused-as, few, needs-two, can-act, few-now, answered-as}
 use Rattle.settle.proofs.Settling.{settleable}
 use borrow.Author.Needs.{needs}
-use Rattle.heap.proofs.step.Statement.{statement}
-use Rattle.heap.proofs.step.Tie as tie
-use Rattle.heap.proofs.step.Reads as reads
-use Rattle.heap.proofs.step.Lts as lts
+use Rattle.working.proofs.step.Statement.{statement}
+use Rattle.working.proofs.step.Tie as tie
+use Rattle.working.proofs.step.Reads as reads
+use Rattle.working.proofs.step.Lts as lts
 use Rattle.calls.proofs.act.Reads as act-reads
 use Rattle.calls.proofs.check.Reads as check-reads
 use Rattle.calls.proofs.need.Reads as need-reads
-use Rattle.heap.proofs.left.Reads as left-reads
-use Rattle.heap.proofs.settles_first.Reads as settles-first-reads
+use Rattle.working.proofs.left.Reads as left-reads
+use Rattle.working.proofs.settles_first.Reads as settles-first-reads
 use Rattle.settle.proofs.settle_if.Reads as settle-if-reads
 
--- src/lib.rt:136:9
+-- src/lib.rt:130:9
 check-requires : tie.Need-check-requires
 check-requires c κs = let W = c .before .before .before .before .before .before .before .before .before .pre in reaches _ (W .fits) (W .standing)
 
--- src/lib.rt:138:9
+-- src/lib.rt:132:9
 same-length : tie.Need-same-length
 same-length c = search needs
 
--- src/lib.rt:138:9
+-- src/lib.rt:132:9
 same-length-2 : tie.Need-same-length-2
 same-length-2 c = search needs
 
--- src/lib.rt:138:9
+-- src/lib.rt:132:9
 same-length-3 : tie.Need-same-length-3
 same-length-3 c = search needs
 
--- src/lib.rt:138:9
+-- src/lib.rt:132:9
 returns : tie.Need-returns
 returns c = (omega arith, λ h S. refused-as _ _ S (c .before .check .ensures _ (shown S)) (c .if1 .taken) refl)
 
--- src/lib.rt:148:9
+-- src/lib.rt:142:9
 need-requires : tie.Need-need-requires
 need-requires c κs = let W = c .before .before .before .before .before .before .before .before .before .before .before .before .before .before .before .pre in reaches _ (W .fits) (W .standing)
 
--- src/lib.rt:149:9
+-- src/lib.rt:143:9
 settles-first-requires : tie.Need-settles-first-requires
 settles-first-requires c κs = let W = c .before .before .before .before .before .before .before .before .before .before .before .before .before .before .before .before .pre in (rw (c .need .ensures _ (shown (W .standing))) (needs-two _ _), few (W .fine) (W .standing) .0)
 
--- src/lib.rt:150:15
+-- src/lib.rt:144:15
 cast-cap : tie.Need-cast-cap
 cast-cap c = search needs
 
--- src/lib.rt:151:9
+-- src/lib.rt:145:9
 settle-if-requires : tie.Need-settle-if-requires
 settle-if-requires c κs = settleable (c .before .before .before .before .before .before .before .before .before .before .before .before .before .before .before .before .before .before .before .before .before .before .before .before .before .before .pre .standing .whole)
 
--- src/lib.rt:166:9
+-- src/lib.rt:160:9
 act-requires : tie.Need-act-requires
 act-requires c κs =
     let W = c .before .before .before .before .before .before .before .before .before .before .before .before .before .before .before .before .before .before .before .before .before .before .before .before .before .before .before .before .before .before .before .before .before .before .before .before .before .before .before .before .before .before .before .before .pre in
@@ -63,7 +63,7 @@ act-requires c κs =
     let make = c .before .before .before .before .before .before .before .before .before .before .before .before .before .before .before .before .before .before .before .before .before .before .before .before .before .before .before .settles-first .ensures s _ refl refl (few (W .fine) S .1) (S .whole .rows .first) (c .before .before .before .before .before .before .before .before .before .before .before .before .before .before .before .before .before .before .before .before .before .before .before .before .before .before .before .before .need .ensures _ (shown S)) in
     can-act (W .fine) (S .inv) _ (W .fits) no make (c .before .before .before .before .before .before .before .before .before .before .before .before .before .before .before .before .before .settle-if .ensures s _ _ refl refl (S .whole)) (search needs ∙ S .log-long)
 
--- src/lib.rt:176:5
+-- src/lib.rt:170:5
 left-requires : tie.Need-left-requires
 left-requires c κs =
     let W = c .before .before .before .before .before .before .before .before .before .before .before .before .before .before .before .before .before .before .before .before .before .before .before .before .before .before .before .before .before .before .before .before .before .before .before .before .before .before .before .before .before .before .before .before .before .before .before .before .before .before .before .pre in
@@ -73,39 +73,39 @@ left-requires c κs =
     let make = c .before .before .before .before .before .before .before .before .before .before .before .before .before .before .before .before .before .before .before .before .before .before .before .before .before .before .before .before .before .before .before .before .before .before .settles-first .ensures s _ refl refl (few (W .fine) S .1) (S .whole .rows .first) (c .before .before .before .before .before .before .before .before .before .before .before .before .before .before .before .before .before .before .before .before .before .before .before .before .before .before .before .before .before .before .before .before .before .before .before .need .ensures _ (shown S)) in
     (few-now (W .fine) (S .inv) _ (W .fits) no make (c .before .before .before .before .before .before .before .before .before .before .before .before .before .before .before .before .before .before .before .before .before .before .before .before .settle-if .ensures s _ _ refl refl (S .whole)) (search needs ∙ S .log-long), W .few)
 
--- src/lib.rt:118:1
+-- src/lib.rt:112:1
 same-length-4 : tie.Need-same-length-4
 same-length-4 c = let a = c .before .before .before .before .before .before .kinds2 .given in let b = c .before .before .before .before .before .before .before .before .before .before .before .before .before .before .before .before .before .before .before .before .before .before .before .before .kinds .given in search needs
 
--- src/lib.rt:118:1
+-- src/lib.rt:112:1
 same-length-5 : tie.Need-same-length-5
 same-length-5 c = search needs
 
--- src/lib.rt:118:1
+-- src/lib.rt:112:1
 same-length-6 : tie.Need-same-length-6
 same-length-6 c = search needs
 
--- src/lib.rt:118:1
+-- src/lib.rt:112:1
 same-length-7 : tie.Need-same-length-7
 same-length-7 c = search needs
 
--- src/lib.rt:118:1
+-- src/lib.rt:112:1
 same-length-8 : tie.Need-same-length-8
 same-length-8 c = search needs
 
--- src/lib.rt:118:1
+-- src/lib.rt:112:1
 same-length-9 : tie.Need-same-length-9
 same-length-9 c = search needs
 
--- src/lib.rt:118:1
+-- src/lib.rt:112:1
 same-length-10 : tie.Need-same-length-10
 same-length-10 c = search needs
 
--- src/lib.rt:118:1
+-- src/lib.rt:112:1
 same-length-11 : tie.Need-same-length-11
 same-length-11 c = search needs
 
--- src/lib.rt:118:1
+-- src/lib.rt:112:1
 returns-2 : tie.Need-returns-2
 returns-2 c =
     let g = c .before .before .before .before .before .before .before .before .before .before .before .before .before .before .before .log .given in

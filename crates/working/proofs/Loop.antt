@@ -12,12 +12,13 @@ use lib.ListN.{length, length-map, length-append, length-replicate, length-drop,
 use lib.Seq.{drop-cons, set-at}
 use borrow.Author.Tests.{leb-true}
 use Rattle.rules.specs.declared.Call.{Call}
+use Rattle.rules.specs.declared.Outcome.{Outcome}
 use Rattle.rules.specs.declared.Call.the-variants.{Settle}
 use Rattle.rules.specs.Head.{Sizes}
 use Rattle.rules.specs.Settle.{Heap, settled}
 use Rattle.rules.specs.Call.{Answer, callsOf, callsIn}
 use Rattle.rules.specs.Step.{Stepped, settledIf, step, calls}
-use Rattle.rules.specs.Rows.{lent, rowsOf, headOf}
+use Rattle.rules.specs.Rows.{Lent, lent, rowsOf, headOf}
 use Rattle.rules.specs.Refusals.{answerWords, answered, outcome}
 use Rattle.rules.proofs.Fine.{Fine}
 use Rattle.rules.proofs.Calls.{Fits, AllFit, calls-in-fit}
@@ -28,9 +29,9 @@ use Rattle.calls.specs.Words.{callAt}
 use Rattle.calls.proofs.Listing.{Listed, listed}
 use Rattle.settle.specs.declared.Reclaimed.{Reclaimed}
 use Rattle.settle.specs.Settling.{Settled}
-use Rattle.heap.specs.declared.State.{State}
-use Rattle.heap.specs.Working.{Standing, Workable, Turnable, Turned, Runnable, Ran, Finished}
-use Rattle.heap.proofs.Steps.{few-freed}
+use Rattle.working.specs.declared.State.{State}
+use Rattle.working.specs.Working.{Standing, Workable, Turnable, Turned, Runnable, Ran, Endable, Finished, Batched}
+use Rattle.working.proofs.Steps.{few-freed}
 
 -- ---- lengths
 
@@ -257,3 +258,13 @@ module _ {s : Sizes} {ws : List ℤ} {ks₀ : List ℕ} {xs₀ vs₀ : List ℤ}
       let l = list-long in
       let m = G .most in
       ran (G .progress es h e S) (omega arith) (omega arith)
+
+-- ---- the calls and the settle at the end together
+
+module _ {s : Sizes} (F : Fine s) {ds : List Call} {h : Heap} {ks : List ℕ} {xs vs : List ℤ} {zs ms cs log work : List ℕ} {as′ bs : List ℤ} {st : State}
+    (R : Ran s ds h ks xs vs zs ms cs log work as′ bs st) where
+  pub endable : st .freed ≤ 262144 → Endable s ks xs vs zs ms cs log work st
+  endable f = record { fine = F; heap = R .heap; standing = R .standing; few = omega arith }
+
+  pub batched : {q : Lent} {o : Outcome} → Finished s (R .heap) q o → Batched s ds h q as′ bs o
+  batched D = record { rows = D .rows ∙ ap (rowsOf s) (sym (R .ends)); is = rw (R .ends) (D .is); answers = R .answers }

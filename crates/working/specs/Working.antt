@@ -26,8 +26,8 @@ use Rattle.calls.specs.Seen.{needs}
 use Rattle.calls.specs.Doing.{acted}
 use Rattle.calls.specs.declared.Acted.{Acted}
 use Rattle.settle.specs.declared.Room.{Room}
-use Rattle.heap.specs.declared.State.{State}
-use Rattle.heap.specs.declared.Worked.{Worked}
+use Rattle.working.specs.declared.State.{State}
+use Rattle.working.specs.declared.Worked.{Worked}
 
 -- is a settle made before the call? (A settle call makes its own.)
 unfoldable pub wants : Sizes → Call → Heap → Bool

@@ -2,21 +2,21 @@ use mathlib.Core.Path.{_≡_, refl, _∙_}
 use mir.Syntax.{w32}
 use mir.Val.{toZ, ofZ}
 use borrow.Author.Needs.{needs}
-use Rattle.heap.proofs.left.Statement.{statement}
-use Rattle.heap.proofs.left.Tie as tie
-use Rattle.heap.proofs.left.Reads as reads
-use Rattle.heap.proofs.left.Lts as lts
-use Rattle.heap.proofs.answer_value.Reads as answer-value-reads
+use Rattle.working.proofs.left.Statement.{statement}
+use Rattle.working.proofs.left.Tie as tie
+use Rattle.working.proofs.left.Reads as reads
+use Rattle.working.proofs.left.Lts as lts
+use Rattle.working.proofs.answer_value.Reads as answer-value-reads
 
--- src/lib.rt:102:9
+-- src/lib.rt:96:9
 answer-value-requires : tie.Need-answer-value-requires
 answer-value-requires c κs = search needs
 
--- src/lib.rt:108:16
+-- src/lib.rt:102:16
 add-t9 : tie.Need-add-t9
 add-t9 c = search needs
 
--- src/lib.rt:97:1
+-- src/lib.rt:91:1
 returns : tie.Need-returns
 returns c = record { state = refl; status = refl; value = λ k. out ∙ (rw inn at (c .before .answer-value .ensures k)) }
   where

@@ -38,9 +38,9 @@ use Rattle.calls.proofs.Arms.{shown-of, named-of, able}
 use Rattle.settle.specs.declared.Room.{Room}
 use Rattle.settle.specs.Settling.{Settleable, RoomMade}
 use Rattle.settle.proofs.Settling.{settleable}
-use Rattle.heap.specs.declared.State.{State}
-use Rattle.heap.specs.declared.Worked.{Worked}
-use Rattle.heap.specs.Working.{wants, valued, LeftBy, Standing, Workable, Answered}
+use Rattle.working.specs.declared.State.{State}
+use Rattle.working.specs.declared.Worked.{Worked}
+use Rattle.working.specs.Working.{wants, valued, LeftBy, Standing, Workable, Answered}
 
 -- settled first where b says so, then done
 abbrev pub workedBy : Sizes → Call → Heap → Bool → Stepped
