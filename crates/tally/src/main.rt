@@ -1,11 +1,12 @@
 // The text program: a script of calls from standard input, run on a heap; its answers and the heap at the end.
 ghost use mathlib.Core.Path.{_≡_};
-ghost use Prim.Native.Nat.{_<_, _≤_};
+ghost use Prim.Native.Nat.{_+_, _<_, _≤_};
 ghost use lib.IntN.{natAbs};
 ghost use lib.ListN.{length};
 ghost use Rattle.tally.specs.Place.{Gathered};
 use libc::STDIN_FILENO;
 use libc::STDOUT_FILENO;
+use reader::Read;
 use rules::Head;
 use script::Line;
 
@@ -204,6 +205,14 @@ fn keep(calls: &mut [i32], i: usize, op: i32, a: i32, b: i32, c: i32)
     calls[4 * i + 3] = c;
 }
 
+// The line after so many lines: its number is one more.
+fn read_line(text: &[u8], at: usize, lines: usize, m: usize) -> Read
+    requires { ⌜ (at ≤ length (now text)) × (lines < 1000000) ⌝ }
+    ensures { λ r. ⌜ r .number ≡ lines + 1 ⌝ }
+{
+    reader::read_later(text, at, lines, m)
+}
+
 // The lines up to the end of a batch: its calls, and how far the script is then read.
 fn gather(text: &[u8], from: Place, m: usize, calls: &mut [i32]) -> Place
     requires { ⌜ (from .at < length (now text)) × (length (now calls) ≡ 1024) ⌝ }
@@ -215,10 +224,10 @@ fn gather(text: &[u8], from: Place, m: usize, calls: &mut [i32]) -> Place
     let mut lines = from.lines;
     let mut count = 0;
     loop {
-        let read = reader::read_later(text, at, lines, m);
+        let read = read_line(text, at, lines, m);
         let line = read.line;
         at = read.next;
-        lines += 1;
+        lines = read.number;
         match line {
             Line::Call(op, a, b, c) => {
                 if CALLS_MOST <= count {

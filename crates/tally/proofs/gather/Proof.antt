@@ -17,11 +17,8 @@ abbrev μ-loop : tie.MeasureT-loop
 loop-holds : tie.Need-loop-holds Inv-loop μ-loop
 loop-holds c = search needs
 
-read-later-requires : tie.Need-read-later-requires Inv-loop μ-loop
-read-later-requires c κs = search needs
-
-add-lines : tie.Need-add-lines Inv-loop μ-loop
-add-lines c = search needs
+read-line-requires : tie.Need-read-line-requires Inv-loop μ-loop
+read-line-requires c κs = search needs
 
 enum-known-line : tie.Need-enum-known-line Inv-loop μ-loop
 enum-known-line c = search needs
@@ -93,8 +90,7 @@ gather-spec =
     Inv-loop
     μ-loop
     loop-holds
-    read-later-requires
-    add-lines
+    read-line-requires
     enum-known-line
     new-requires
     same-length
