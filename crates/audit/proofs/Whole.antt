@@ -1,18 +1,19 @@
 -- What the work row showed, said of the rows themselves; and the outcome of an audit. Assumes nothing.
-use Prim.Native.Nat.{ℕ, zero, suc, _*_, _<_}
+use Prim.Native.Nat.{ℕ, _*_, _<_}
 use mathlib.Core.Path.{_≡_, refl, sym, _∙_}
 use mathlib.Core.Bool.{Bool, true, false, cond}
-use mathlib.Core.List.{List, [], _∷_, map}
+use mathlib.Core.List.{List, map}
 use native.Mathlib.Omega.{arith}
-use lib.IntN.{ℤ, pos, negsuc}
+use lib.IntN.{ℤ}
 use lib.ListN.{length, getD, replicate, length-map}
 use Rattle.rules.specs.declared.Head.{Head}
-use Rattle.rules.specs.Field.{variableOf, heldOf}
+use Rattle.rules.specs.Field.{heldOf}
 use Rattle.rules.specs.Rows.{lent}
-use Rattle.rules.specs.Sound.{Variable, Variables, TableRow, heldAmong, Sound, Sized}
+use Rattle.rules.specs.Sound.{TableRow, heldAmong, Sound, Sized}
 use Rattle.rules.specs.Refusals.{outcome, leaves, auditOf}
 use Rattle.rules.proofs.Tests.{false-sized}
 use Rattle.rules.proofs.Positions.{holds-held}
+use Rattle.rules.proofs.Roundtrip.{variables-again}
 use Rattle.rules.proofs.Demand1.{audit-0, audit-4}
 use Rattle.cells.specs.Marks.{Marks}
 use Rattle.checks.specs.Counts.{Counted, Agree, AllHeld, Within}
@@ -37,17 +38,6 @@ module _ (n : ℕ) (ks : List ℕ) (vs : List ℤ) (zs : List ℕ) (zct : ℕ) (
         none = λ j h. c .each (getD zs j 0) (Z .live j h .cell) ∙ A .none j h;
         exact = λ j h k. c .each (getD ms j 0) (M .live j h .cell) ∙ A .exact j h k;
       }
-
--- a variable's word is what it holds, and back
-named : (n : ℕ) (ks : List ℕ) (x : ℤ) → Variable n ks x → variableOf (heldOf x) ≡ x
-named n ks (pos a) A = refl
-named n ks (negsuc zero) A = refl
-named n ks (negsuc (suc a)) A =
-    absurd (let h = A (λ e. let z : _≡_ {A = ℕ} (suc a) 0 = cc in omega arith) .cell in omega arith)
-
-pub all-named : (n : ℕ) (ks : List ℕ) (xs : List ℤ) → Variables n ks xs → Named xs
-all-named n ks [] A = refl
-all-named n ks (x ∷ xs) A = rw (named n ks x (A 0 (omega arith)), all-named n ks xs (λ v h. A (suc v) (omega arith)))
 
 module _ (n : ℕ) (xs : List ℤ) (zs : List ℕ) (zct : ℕ) (work : List ℕ) (W : Within zs zct n) (N : Named xs) (M : Marks n work (map heldOf xs)) where
   marked-at : (b : ℕ) → b < n → getD work b 0 ≡ cond (heldAmong n xs b (length xs)) 1 0
@@ -102,7 +92,7 @@ module _ (h : Head) (ks : List ℕ) (vs xs : List ℤ) (zs ms cs ls work : List 
               zct-row = s .tables .zct-sound .table;
               mrt-row = s .tables .mrt-sound .table;
             };
-        named = all-named (h .n) ks xs (s .cells .variables);
+        named = variables-again (h .n) ks xs (s .cells .variables);
         work-long = g .for-work;
       }
 

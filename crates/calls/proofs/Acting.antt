@@ -2,31 +2,30 @@
 use mathlib.Core.Path.{_≡_, refl, sym, ap, _∙_}
 use mathlib.Core.Bool.{Bool, true, false, cond}
 use mathlib.Core.Option.{Option, none, some}
-use mathlib.Core.List.{List, [], _∷_, _++_, map, append-assoc}
+use mathlib.Core.List.{List, [], _∷_, _++_, append-assoc}
 use Prim.Native.Nat.{ℕ, zero, suc, _+_, _*_, _≤_, _<_}
 use native.Mathlib.Omega.{arith}
-use lib.Dec.{ltb, eqb}
+use lib.Dec.{ltb}
 use borrow.Author.Tests.{lt-ltb, le-ltb, ltb-true, eq-eqb, ne-eqb}
-use lib.IntN.{ℤ, pos, negsuc}
-use lib.ListN.{length, getD, set, length-append}
+use lib.IntN.{ℤ, pos}
+use lib.ListN.{length, getD, set}
 use Rattle.rules.specs.declared.Field.{Field}
 use Rattle.rules.specs.declared.Field.the-variants.{Nothing, Figure, Cell, Free}
-use Rattle.rules.specs.declared.Call.{Call}
 use Rattle.rules.specs.declared.Used.{Used}
 use Rattle.rules.specs.Head.{Sizes}
 use Rattle.rules.specs.Field.{addressOf, variableOf, fieldOf, kindOf, valueOf}
 use Rattle.rules.specs.Rules.{Transaction}
-use Rattle.rules.specs.Settle.{Shape, Heap, place, field, store, drops}
+use Rattle.rules.specs.Settle.{Shape, Heap, place, field, drops}
 use Rattle.rules.specs.Call.{var, at, isHeld, want, write, hold, toCell, target, makes, sameCell}
 use Rattle.rules.specs.Step.{noneFree, doNew, takeCell}
 use Rattle.rules.specs.Rows.{Inside, Cells, Logged, Whole}
 use Rattle.cells.specs.Leaves.{heldAs}
 use Rattle.cells.specs.Log.{transaction}
 use Rattle.cells.specs.Free.{Taken}
-use Rattle.cells.proofs.Storing.{map-set, inside-more, cell-lengths, read, read-inside, stored-at}
+use Rattle.cells.proofs.Storing.{map-set, inside-more, cell-lengths, read-inside, stored-at}
 use Rattle.calls.specs.declared.Acted.{Acted}
 use Rattle.calls.specs.Seen.{Held, Shown}
-use Rattle.calls.specs.Doing.{Did, Plain, Wrote, Writable, Linkable}
+use Rattle.calls.specs.Doing.{Did, Plain, Wrote, Writable}
 use Rattle.calls.proofs.Seeing.{held-is, held-some, held-none, held-test, at-some}
 
 -- ---- a variable

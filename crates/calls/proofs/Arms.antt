@@ -1,13 +1,12 @@
 -- Laws of each arm of a call: what it needs, and that the rows are the heap after it. Assumes nothing.
-use mathlib.Core.Path.{_≡_, refl, sym, ap, _∙_}
-use mathlib.Core.Bool.{Bool, true, false, cond, _||_}
+use mathlib.Core.Path.{_≡_, refl, _∙_}
+use mathlib.Core.Bool.{cond}
 use mathlib.Core.Option.{Option, none, some}
-use mathlib.Core.List.{List, [], _∷_, _++_, append-nil}
-use Prim.Native.Nat.{ℕ, zero, suc, _+_, _*_, _≤_, _<_}
+use mathlib.Core.List.{List, _++_}
+use Prim.Native.Nat.{ℕ, _+_, _*_, _≤_, _<_}
 use native.Mathlib.Omega.{arith}
 use lib.IntN.{ℤ, pos}
 use lib.ListN.{length, getD, set, length-append}
-use Rattle.rules.specs.declared.Field.{Field}
 use Rattle.rules.specs.declared.Field.the-variants.{Nothing, Figure, Cell}
 use Rattle.rules.specs.declared.Call.{Call}
 use Rattle.rules.specs.declared.Call.the-variants.{New, Copy, Clear, Link, Put, Blank, Follow, Read, Same, Settle}
@@ -15,10 +14,10 @@ use Rattle.rules.specs.declared.Used.{Used}
 use Rattle.rules.specs.Head.{Sizes}
 use Rattle.rules.specs.Field.{addressOf}
 use Rattle.rules.specs.Rules.{Transaction}
-use Rattle.rules.specs.Settle.{Shape, Heap, drops, settled}
+use Rattle.rules.specs.Settle.{Shape, Heap, drops}
 use Rattle.rules.specs.Call.{var, at, isHeld, want, check, logs, act, value, write, hold, toCell, target, makes, figureOf, sameCell}
-use Rattle.rules.specs.Step.{Stepped, doCall, doSettle, settledIf, full, noneFree, room, run}
-use Rattle.rules.specs.Rows.{Inside, Logged, Whole}
+use Rattle.rules.specs.Step.{doCall, room}
+use Rattle.rules.specs.Rows.{Logged, Whole}
 use Rattle.rules.proofs.Calls.{two-11, Fits}
 use Rattle.cells.proofs.Storing.{cell-lengths}
 use Rattle.cells.proofs.Logging.{logged-same}
@@ -239,30 +238,3 @@ named-of s (Follow v f w) F = (F .1 .0, (F .0, F .1 .1))
 named-of s (Read v f) F = (F .1, F .0)
 named-of s (Same v w) F = F
 named-of s Settle F = tt
-
--- the settle before a call where it needs one, and the call after it; a settle call's value is the number of cells that it freed
-abbrev pub ran : Sizes → Call → Heap → Stepped
-ran s (New v) h = acted s (New v) (settledIf (full s 1 h || noneFree s h) s h)
-ran s (Copy v w) h = acted s (Copy v w) h
-ran s (Clear v) h = acted s (Clear v) h
-ran s (Link v f w) h = acted s (Link v f w) (settledIf (full s (length (logs (Link v f w) (h .shape))) h) s h)
-ran s (Put v f x) h = acted s (Put v f x) (settledIf (full s (length (logs (Put v f x) (h .shape))) h) s h)
-ran s (Blank v f) h = acted s (Blank v f) (settledIf (full s (length (logs (Blank v f) (h .shape))) h) s h)
-ran s (Follow v f w) h = acted s (Follow v f w) h
-ran s (Read v f) h = acted s (Read v f) h
-ran s (Same v w) h = acted s (Same v w) h
-ran s Settle h = doSettle h (acted s Settle (settled s h) .heap)
-
--- a call that passed 11 to 13 is its settle, if one is made, and then what it does
-pub run-acted : (s : Sizes) (c : Call) (h : Heap) → run s c h ≡ ran s c h
-unfolding run acted room
-run-acted s (New v) h = refl
-run-acted s (Copy v w) h = refl
-run-acted s (Clear v) h = refl
-run-acted s (Link v f w) h = refl
-run-acted s (Put v f x) h = refl
-run-acted s (Blank v f) h = refl
-run-acted s (Follow v f w) h = refl
-run-acted s (Read v f) h = refl
-run-acted s (Same v w) h = refl
-run-acted s Settle h = refl

@@ -1,10 +1,9 @@
 -- Laws of a row of words as calls: the loop that reads them, the call at a place. Assumes nothing.
-use mathlib.Core.Path.{_≡_, refl, sym, ap, _∙_}
+use mathlib.Core.Path.{_≡_, refl, ap, _∙_}
 use mathlib.Core.Bool.{Bool, true, false, cond}
 use mathlib.Core.Option.{Option, none, some}
-use mathlib.Core.List.{List, [], _∷_, _++_, append-assoc, append-nil}
+use mathlib.Core.List.{List, [], _∷_, _++_, append-assoc}
 use Prim.Native.Nat.{ℕ, zero, suc, _+_, _*_, _-_, _≤_, _<_}
-use native.Mathlib.Numerals.{add-one}
 use native.Mathlib.Omega.{arith}
 use lib.Dec.{leb}
 use borrow.Author.Tests.{le-leb, lt-leb}
@@ -14,6 +13,7 @@ use lib.Seq.{drop-cons, drop-length}
 use Rattle.rules.specs.declared.Call.{Call}
 use Rattle.rules.specs.declared.Call.the-variants.{Settle}
 use Rattle.rules.specs.Call.{callOf, andThen, callsOf, callsIn}
+use Rattle.rules.proofs.Alike.{no-first, first-call}
 use Rattle.calls.specs.Words.{isSome, callAt, Calls, Decides}
 
 -- calls before those of the rest
@@ -110,17 +110,6 @@ says-yes r m ws e h = record { yes = λ q. h; no = λ q. absurd (let z : _≡_ {
 
 -- ---- the call at a place, for the loop over the calls
 
--- what andThen gives is the first and the rest
-then-is : (o : Option Call) (r : Option (List Call)) (c : Call) (cs : List Call) → andThen o r ≡ some (c ∷ cs) → (o ≡ some c) × (r ≡ some cs)
-then-is none r c cs e = absurd (let z : _≡_ {A = ℕ} 0 1 = cc in omega arith)
-then-is (some d) none c cs e = absurd (let z : _≡_ {A = ℕ} 0 1 = cc in omega arith)
-then-is (some d) (some ds) c cs e = ((cc), (cc))
-
-then-more : (o : Option Call) (r : Option (List Call)) → andThen o r ≡ some [] → ⊥
-then-more none r e = let z : _≡_ {A = ℕ} 0 1 = cc in omega arith
-then-more (some d) none e = let z : _≡_ {A = ℕ} 0 1 = cc in omega arith
-then-more (some d) (some ds) e = let z : _≡_ {A = ℕ} 0 1 = cc in omega arith
-
 -- the i-th call is that of the words from 4i on, and there are four words to a call
 pub record Listed (m : ℕ) (ws : List ℤ) (cs : List Call) : Type 0 where
   pub long : length ws ≡ 4 * length cs
@@ -133,9 +122,9 @@ listed-of m [] (d ∷ cs) e = absurd (let z : _≡_ {A = ℕ} 0 1 = cc in omega 
 listed-of m (x ∷ []) cs e = absurd (let z : _≡_ {A = ℕ} 0 1 = cc in omega arith)
 listed-of m (x ∷ y ∷ []) cs e = absurd (let z : _≡_ {A = ℕ} 0 1 = cc in omega arith)
 listed-of m (x ∷ y ∷ z ∷ []) cs e = absurd (let z : _≡_ {A = ℕ} 0 1 = cc in omega arith)
-listed-of m (x ∷ y ∷ z ∷ w ∷ ws) [] e = absurd (then-more (callOf m x y z w) (callsOf m ws) e)
+listed-of m (x ∷ y ∷ z ∷ w ∷ ws) [] e = absurd (no-first (callOf m x y z w) (callsOf m ws) e)
 listed-of m (x ∷ y ∷ z ∷ w ∷ ws) (d ∷ cs) e =
-    let t = then-is (callOf m x y z w) (callsOf m ws) d cs e in
+    let t = first-call (callOf m x y z w) (callsOf m ws) d cs e in
     let L = listed-of m ws cs (t .1) in
     record { long = omega (arith, L .long); call = λ i h. at i h (t .0) L }
   where

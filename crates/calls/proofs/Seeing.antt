@@ -7,8 +7,8 @@ use Prim.Native.Nat.{ℕ, zero, suc, _+_, _*_, _≤_, _<_}
 use native.Mathlib.Omega.{arith}
 use lib.Dec.{ltb}
 use borrow.Author.Tests.{lt-ltb, le-ltb}
-use lib.IntN.{ℤ, pos, negsuc}
-use lib.ListN.{length, getD, length-map, List·getD-map}
+use lib.IntN.{ℤ, pos}
+use lib.ListN.{length, getD}
 use Rattle.rules.specs.declared.Field.{Field}
 use Rattle.rules.specs.declared.Field.the-variants.{Nothing}
 use Rattle.rules.specs.declared.Call.{Call}

@@ -1,7 +1,7 @@
 -- Laws of a fresh heap's rows. Assumes nothing.
 use mathlib.Core.Path.{_≡_, refl, sym, ap, _∙_}
 use mathlib.Core.Option.{none}
-use mathlib.Core.List.{List, [], _∷_, _++_, map, append-nil}
+use mathlib.Core.List.{List, [], _∷_, _++_, map, append-nil, map-append}
 use Prim.Native.Nat.{ℕ, zero, suc, _+_, _-_, _*_, _≤_, _<_}
 use native.Mathlib.Numerals.{add-one}
 use native.Mathlib.Omega.{arith}
@@ -15,6 +15,7 @@ use Rattle.rules.specs.Head.{Sizes}
 use Rattle.rules.specs.Table.{pad}
 use Rattle.rules.specs.Step.{freeFrom, fresh}
 use Rattle.rules.specs.Rows.{lent, rowsOf}
+use Rattle.rules.proofs.Fresh.{fresh-len}
 use Rattle.cells.proofs.Filling.{put-two}
 
 -- k cells free, and the one after them
@@ -30,27 +31,18 @@ free-next k =
     let z : 0 + k ≡ k = omega arith in
     free-more 0 k ∙ rw z
 
-pub free-length : (a k : ℕ) → length (freeFrom a k) ≡ 2 * k
-unfolding freeFrom
-free-length a zero = refl
-free-length a (suc k) = omega (arith, free-length (suc a) k)
-
 module _ {B : Type 0} (f : Field → B) where
-  map-append : (xs ys : List Field) → map f (xs ++ ys) ≡ map f xs ++ map f ys
-  map-append [] ys = refl
-  map-append (x ∷ xs) ys = ap (λ (l : List B). f x ∷ l) (map-append xs ys)
-
   -- one more free cell over the row d
   pub freed-next : (d l l′ : List B) (a : ℕ) → 2 * a + 1 < length d → l ≡ map f (freeFrom 0 a) ++ drop (2 * a) d
       → l′ ≡ set (set l (2 * a) (f (Free (a + 1)))) (2 * a + 1) (f Nothing) → l′ ≡ map f (freeFrom 0 (a + 1)) ++ drop (2 * (a + 1)) d
   freed-next d l l′ a h e g =
-      let p : length (map f (freeFrom 0 a)) ≡ 2 * a = length-map (freeFrom 0 a) f ∙ free-length 0 a in
+      let p : length (map f (freeFrom 0 a)) ≡ 2 * a = length-map (freeFrom 0 a) f ∙ fresh-len 0 a in
       let q : suc (suc (2 * a)) ≡ 2 * (a + 1) = omega arith in
       let x : B = f Nothing in
       let w : drop (2 * a) d ≡ getD d (2 * a) x ∷ getD d (suc (2 * a)) x ∷ drop (2 * (a + 1)) d =
       drop-cons d (2 * a) x (omega arith) ∙ ap (λ (l : List B). getD d (2 * a) x ∷ l) (drop-cons d (suc (2 * a)) x (omega arith) ∙ rw q) in
       let m : map f (freeFrom 0 (a + 1)) ≡ map f (freeFrom 0 a) ++ (f (Free (a + 1)) ∷ f Nothing ∷ []) =
-      rw (add-one a, free-next a) (map-append (freeFrom 0 a) (Free (suc a) ∷ Nothing ∷ [])) in
+      rw (add-one a, free-next a) (map-append f (freeFrom 0 a) (Free (suc a) ∷ Nothing ∷ [])) in
       g ∙ rw (e, w, m) (put-two (map f (freeFrom 0 a)) (drop (2 * (a + 1)) d) (getD d (2 * a) x) (getD d (suc (2 * a)) x) (f (Free (a + 1))) x (2 * a) p)
 
   pub freed-all : (d l : List B) (a n : ℕ) → a ≤ n → n ≤ a → length d ≡ 2 * n → l ≡ map f (freeFrom 0 a) ++ drop (2 * a) d → l ≡ map f (freeFrom 0 n)

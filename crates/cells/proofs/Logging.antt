@@ -11,6 +11,7 @@ use lib.Dec.{eqb}
 use borrow.Author.Tests.{eqb-true, eqb-false}
 use Rattle.rules.specs.Rules.{Transaction, allocates, creates, destroys}
 use Rattle.rules.specs.Rows.{words, Logged}
+use Rattle.rules.proofs.Roundtrip.{length-words}
 use Rattle.cells.specs.Log.{transaction}
 use Rattle.cells.proofs.Filling.{put-two}
 
@@ -19,12 +20,6 @@ words-append [] ys = refl
 words-append (allocates a ∷ xs) ys = ap (λ (l : List ℕ). 1 ∷ a ∷ l) (words-append xs ys)
 words-append (creates a ∷ xs) ys = ap (λ (l : List ℕ). 2 ∷ a ∷ l) (words-append xs ys)
 words-append (destroys a ∷ xs) ys = ap (λ (l : List ℕ). 3 ∷ a ∷ l) (words-append xs ys)
-
-pub length-words : (xs : List Transaction) → length (words xs) ≡ 2 * length xs
-length-words [] = refl
-length-words (allocates a ∷ xs) = omega (arith, length-words xs)
-length-words (creates a ∷ xs) = omega (arith, length-words xs)
-length-words (destroys a ∷ xs) = omega (arith, length-words xs)
 
 -- the two words of an entry
 words-of : (k a : ℕ) → 1 ≤ k → k ≤ 3 → words (transaction k a ∷ []) ≡ k ∷ a ∷ []

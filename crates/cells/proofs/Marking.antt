@@ -13,18 +13,9 @@ use lib.IntN.{ℤ, pos, negsuc}
 use borrow.Author.Tests.{eqb-true, eqb-false, lt-ltb, le-ltb}
 use Rattle.rules.specs.Field.{addressOf, variableOf, heldOf}
 use Rattle.rules.specs.Settle.{holds}
+use Rattle.rules.proofs.Roundtrip.{variables-back}
 use Rattle.cells.specs.Leaves.{heldAs}
 use Rattle.cells.specs.Marks.{Marks}
-
--- the words of holds are those holds
-pub held-back : (hs : List (Option ℕ)) → map heldOf (map variableOf hs) ≡ hs
-held-back [] = refl
-held-back (none ∷ hs) = ap (λ (l : List (Option ℕ)). none ∷ l) (held-back hs)
-held-back (some a ∷ hs) = ap (λ (l : List (Option ℕ)). some a ∷ l) (held-back hs)
-
-map-append : (xs ys : List ℤ) → map heldOf (xs ++ ys) ≡ map heldOf xs ++ map heldOf ys
-map-append [] ys = refl
-map-append (x ∷ xs) ys = ap (λ (l : List (Option ℕ)). heldOf x ∷ l) (map-append xs ys)
 
 -- does this word hold a?
 abbrev names : ℕ → ℤ → Bool
@@ -67,7 +58,7 @@ marked-next n v a w w′ xs h M e q =
 
 pub marked-all : (n v : ℕ) (w : List ℕ) (xs : List ℤ) → length xs ≤ v → Marks n w (map heldOf (take v xs)) → (hs : List (Option ℕ)) → xs ≡ map variableOf hs → Marks n w hs
 marked-all n v w xs h M hs e =
-    let q : map heldOf xs ≡ hs = rw e (held-back hs) in
+    let q : map heldOf xs ≡ hs = rw e (variables-back hs) in
     rw (take-all v xs h, q) at M
 
 -- ---- for callers: what a variable's word holds, and what is put into it

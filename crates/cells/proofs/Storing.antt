@@ -11,6 +11,7 @@ use Rattle.rules.specs.Field.{fieldOf, kindOf, valueOf}
 use Rattle.rules.specs.Settle.{place, field, store}
 use Rattle.rules.specs.Step.{after}
 use Rattle.rules.specs.Rows.{Inside, Cells}
+use Rattle.rules.proofs.Roundtrip.{field-back}
 use Rattle.cells.specs.Free.{Taken}
 
 pub map-set : {A B : Type 0} (f : A → B) (i : ℕ) (x : A) (l : List A) → map f (set l i x) ≡ set (map f l) i (f x)
@@ -25,20 +26,13 @@ inside-more (Figure x) h I = tt
 inside-more (Cell b) h I = omega arith
 inside-more (Free b) h I = omega arith
 
--- kind and value of a field are that field
-again : (f : Field) → fieldOf (kindOf f) (valueOf f) ≡ f
-again Nothing = refl
-again (Figure x) = refl
-again (Cell b) = refl
-again (Free b) = refl
-
 module _ {n : ℕ} {ks : List ℕ} {xs : List ℤ} {fs : List Field} (C : Cells n ks xs fs) where
   pub cell-lengths : (length ks ≡ 2 * n) × (length xs ≡ 2 * n)
   cell-lengths = (rw (C .kinds, length-map) (C .long), rw (C .values, length-map) (C .long))
 
   -- a field that is read is the heap's
   pub read : (f : Field) (i : ℕ) → f ≡ fieldOf (getD ks i 0) (getD xs i (pos 0)) → f ≡ getD fs i Nothing
-  read f i e = e ∙ rw (C .kinds, C .values, List·getD-map kindOf fs i Nothing, List·getD-map valueOf fs i Nothing) (again (getD fs i Nothing))
+  read f i e = e ∙ rw (C .kinds, C .values, List·getD-map kindOf fs i Nothing, List·getD-map valueOf fs i Nothing) (field-back (getD fs i Nothing))
 
   pub read-inside : (f : Field) (i : ℕ) → f ≡ fieldOf (getD ks i 0) (getD xs i (pos 0)) → Inside n f
   read-inside f i e = rw (read f i e) (C .inside i)

@@ -12,8 +12,8 @@ use lib.Seq.{getD-set-same, getD-set-other}
 use borrow.Author.Tests.{eqb-true, eqb-false, ne-eqb}
 use Rattle.rules.specs.Field.{addressOf}
 use Rattle.rules.specs.Sound.{pointsTo, pointers}
+use Rattle.rules.proofs.Positions.{zeros-at}
 use Rattle.checks.specs.Counts.{Counted}
-use Rattle.checks.proofs.Walks.{zero-at}
 
 module _ (n : ℕ) (ks : List ℕ) (vs : List ℤ) where
   pub pointers-most : (b i : ℕ) → pointers n ks vs b i ≤ i
@@ -25,7 +25,7 @@ module _ (n : ℕ) (ks : List ℕ) (vs : List ℤ) where
       go false h = omega arith
 
   pub counted-none : (work : List ℕ) → work ≡ replicate n 0 → Counted n ks vs 0 work
-  counted-none work e = record { long = rw e (length-replicate n 0); each = λ b h. rw e (zero-at n b) }
+  counted-none work e = record { long = rw e (length-replicate n 0); each = λ b h. rw e (zeros-at n b) }
 
   module _ (i : ℕ) (work : List ℕ) (c : Counted n ks vs i work) (t : ℕ) (s : t ≡ pointsTo n (getD ks i 0) (getD vs i (pos 0))) where
     pub counted-more : t < n → Counted n ks vs (i + 1) (set work t (getD work t 0 + 1))

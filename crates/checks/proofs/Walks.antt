@@ -8,19 +8,12 @@ use lib.Dec.{eqb}
 use lib.IntN.{ℤ, pos}
 use lib.ListN.{length, getD, set, replicate, length-set, length-replicate}
 use lib.Seq.{getD-set-same, getD-set-other}
-use borrow.Author.Tests.{eqb-true, eqb-false, eq-eqb}
+use borrow.Author.Tests.{eqb-true, eqb-false}
 use Rattle.rules.specs.Field.{addressOf}
-use Rattle.rules.specs.Sound.{mark, next, Path, times, FreeList}
+use Rattle.rules.specs.Sound.{mark, next, FreePath, times, FreeList}
+use Rattle.rules.proofs.Tables.{eqb-self}
+use Rattle.rules.proofs.Positions.{zeros-at}
 use Rattle.checks.specs.Walk.{Met, Walked, AllMet, zeros}
-
-pub eqb-self : (b : ℕ) → eqb b b ≡ true
-eqb-self b = eq-eqb b b refl
-
--- a row of zeros has nothing else
-pub zero-at : (n b : ℕ) → _≡_ {A = ℕ} (getD (replicate n 0) b 0) 0
-zero-at zero b = refl
-zero-at (suc n) zero = refl
-zero-at (suc n) (suc b) = zero-at n b
 
 times-append : (b : ℕ) (l m : List ℕ) → times b (l ++ m) ≡ times b l + times b m
 times-append b [] m = omega arith
@@ -32,12 +25,12 @@ zeros-less (x ∷ l) zero h e = rw e (omega arith)
 zeros-less (x ∷ l) (suc i) h e = let r = zeros-less l i (omega arith) e in omega arith
 
 module _ (n : ℕ) (ks : List ℕ) (vs : List ℤ) where
-  on : (from : ℕ) (l : List ℕ) (at : ℕ) → Path n ks vs from l at → at < n → mark ks at ≡ 3 → Path n ks vs from (l ++ at ∷ []) (next n vs at)
+  on : (from : ℕ) (l : List ℕ) (at : ℕ) → FreePath n ks vs from l at → at < n → mark ks at ≡ 3 → FreePath n ks vs from (l ++ at ∷ []) (next n vs at)
   on from [] at c h m = rw c (refl, (h, (m, refl)))
   on from (x ∷ l) at c h m = (c .0, (c .1 .0, (c .1 .1 .0, on (next n vs from) l at (c .1 .1 .1) h m)))
 
   -- a list to n goes on from where a walk has come
-  rest : (from : ℕ) (l : List ℕ) (at : ℕ) (m : List ℕ) → Path n ks vs from l at → Path n ks vs from m n → (r : List ℕ) × ((m ≡ l ++ r) × Path n ks vs at r n)
+  rest : (from : ℕ) (l : List ℕ) (at : ℕ) (m : List ℕ) → FreePath n ks vs from l at → FreePath n ks vs from m n → (r : List ℕ) × ((m ≡ l ++ r) × FreePath n ks vs at r n)
   rest from [] at m c d = (m, (refl, rw c at d))
   rest from (x ∷ l) at [] c d = absurd (let h = c .1 .0 in omega arith)
   rest from (x ∷ l) at (y ∷ m) c d =
@@ -50,7 +43,7 @@ module _ (n : ℕ) (ks : List ℕ) (vs : List ℤ) where
         record {
           list = [];
           path = refl;
-          marks = λ b. rw e (zero-at n b);
+          marks = λ b. rw e (zeros-at n b);
           single = λ b. omega arith;
           long = rw e (length-replicate n 0);
         }
@@ -76,11 +69,11 @@ module _ (n : ℕ) (ks : List ℕ) (vs : List ℤ) where
         less b false e = rw (times-append b (m .list) (at ∷ []), e) (omega (arith, m .single b))
 
     module _ (at : ℕ) (work : List ℕ) (m : Met n ks vs first at work) (F : FreeList n ks vs first) where
-      R : (r : List ℕ) × ((F .list ≡ m .list ++ r) × Path n ks vs at r n)
+      R : (r : List ℕ) × ((F .list ≡ m .list ++ r) × FreePath n ks vs at r n)
       R = rest first (m .list) at (F .list) (m .path) (F .path)
 
       -- a walk that stands at a cell goes on by it
-      stands : (r : List ℕ) → Path n ks vs at r n → (at ≡ n → ⊥) → (at < n) × ((mark ks at ≡ 3) × (1 ≤ times at r))
+      stands : (r : List ℕ) → FreePath n ks vs at r n → (at ≡ n → ⊥) → (at < n) × ((mark ks at ≡ 3) × (1 ≤ times at r))
       stands [] c d = absurd (d c)
       stands (x ∷ r) c d = (c .1 .0, (c .1 .1 .0, rw (c .0, eqb-self at) (omega arith)))
 
@@ -114,7 +107,7 @@ module _ (n : ℕ) (ks : List ℕ) (vs : List ℤ) where
         let w = m .marks b in
         omega arith
       where
-        ended : (r : List ℕ) → Path n ks vs n r n → times b r ≡ 0
+        ended : (r : List ℕ) → FreePath n ks vs n r n → times b r ≡ 0
         ended [] c = refl
         ended (x ∷ r) c = absurd (let q = c .1 .0 in omega arith)
 

@@ -6,12 +6,12 @@ use mathlib.Core.List.{List, [], _∷_}
 use lib.Dec.{eqb}
 use lib.ListN.{length, getD}
 use lib.IntN.{ℤ}
-use Rattle.rules.specs.Sound.{mark, Path, times, FreeList}
+use Rattle.rules.specs.Sound.{mark, FreePath, times, FreeList}
 
 -- a walk from the first free address to `to` has marked each cell that it met, and met none twice
 pub record Met (n : ℕ) (ks : List ℕ) (vs : List ℤ) (first to : ℕ) (work : List ℕ) : Type 0 where
   pub list : List ℕ
-  pub path : Path n ks vs first list to
+  pub path : FreePath n ks vs first list to
   pub marks : (b : ℕ) → getD work b 0 ≡ times b list
   pub single : (b : ℕ) → times b list ≤ 1
   pub long : length work ≡ n

@@ -197,12 +197,12 @@ read-op m (pos k) a b x c e r = ap pos (by-reads m k a b x c e r)
 read-op m (negsuc k) a b x c e r = none-reads c e r
 
 -- the first call, and those after it
-no-first : (o : Option Call) (r : Option (List Call)) → andThen o r ≡ some [] → ⊥
+pub no-first : (o : Option Call) (r : Option (List Call)) → andThen o r ≡ some [] → ⊥
 no-first none r e = let z : _≡_ {A = ℕ} 0 1 = cc in omega arith
 no-first (some c) none e = let z : _≡_ {A = ℕ} 0 1 = cc in omega arith
 no-first (some c) (some cs) e = let z : _≡_ {A = ℕ} 0 1 = cc in omega arith
 
-first-call : (o : Option Call) (r : Option (List Call)) (c : Call) (cs : List Call) → andThen o r ≡ some (c ∷ cs) → (o ≡ some c) × (r ≡ some cs)
+pub first-call : (o : Option Call) (r : Option (List Call)) (c : Call) (cs : List Call) → andThen o r ≡ some (c ∷ cs) → (o ≡ some c) × (r ≡ some cs)
 first-call none r c cs e = let z : _≡_ {A = ℕ} 0 1 = cc in absurd (omega arith)
 first-call (some d) none c cs e = let z : _≡_ {A = ℕ} 0 1 = cc in absurd (omega arith)
 first-call (some d) (some ds) c cs e = ((cc), (cc))

@@ -5,7 +5,6 @@ use mathlib.Core.Bool.{Bool, true, false, cond}
 use mathlib.Core.Option.{Option, none, some}
 use mathlib.Core.List.{List, [], _∷_, _++_}
 use lib.Dec.{eqb, leb}
-use lib.IntN.{ℤ}
 use lib.ListN.{length}
 use Rattle.rules.specs.declared.Call.{Call}
 use Rattle.rules.specs.Head.{Sizes, sizesOf, freshHead}
@@ -13,7 +12,7 @@ use Rattle.rules.specs.Settle.{Heap}
 use Rattle.rules.specs.Call.{callsIn}
 use Rattle.rules.specs.Step.{batch, fresh}
 use Rattle.rules.specs.Rows.{Lent, rowsOf, headOf}
-use Rattle.rules.specs.Refusals.{Batched, outcome, leavesWith, answered, freshOf, batchOf}
+use Rattle.rules.specs.Refusals.{Batched, outcome, leavesWith, answered, freshOf}
 use Rattle.rules.specs.Endless.{Endless, endless}
 use Rattle.rules.specs.Run.{ours, Batch, runFrom, runOf, Said, saidBy, but14, saidIn, AsEndless}
 use Rattle.rules.proofs.Invariant.{Ended}

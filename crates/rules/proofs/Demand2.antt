@@ -1,12 +1,11 @@
 -- Demand 2 of our heap: tables as the rules give them, exact counts, all and only what may go is freed, 14 exactly when full. Assumes nothing.
 use Prim.Native.Nat.{ℕ, zero, suc, _+_, _*_, _<_, _≤_}
 use mathlib.Core.Path.{_≡_, refl, sym, ap, _∙_, subst}
-use mathlib.Core.Bool.{Bool, true, false, cond}
-use mathlib.Core.Option.{Option, none, some}
+use mathlib.Core.Bool.{Bool, true, false}
+use mathlib.Core.Option.{none, some}
 use mathlib.Core.List.{List, [], _∷_, _++_, map}
 use native.Mathlib.Omega.{arith}
-use lib.Dec.{eqb, ltb}
-use lib.ListN.{length, getD, drop, set, List·getD-map}
+use lib.ListN.{length, getD, drop, List·getD-map}
 use lib.Seq.{getD-set-same}
 use lib.IntN.{ℤ, pos, negsuc}
 use borrow.Author.Tests.{lt-ltb, le-ltb, eq-eqb, ne-eqb, eqb-true}
@@ -14,18 +13,18 @@ use Rattle.rules.specs.declared.Head.{Head}
 use Rattle.rules.specs.declared.Field.{Field}
 use Rattle.rules.specs.declared.Field.the-variants.{Nothing, Figure, Cell, Free}
 use Rattle.rules.specs.declared.Call.{Call}
-use Rattle.rules.specs.declared.Call.the-variants.{New, Copy, Clear, Link, Put, Blank, Follow, Read, Same, Settle}
+use Rattle.rules.specs.declared.Call.the-variants.{New}
 use Rattle.rules.specs.Head.{Sizes, sizesOf}
 use Rattle.rules.specs.Field.{kindOf, variableOf}
 use Rattle.rules.specs.Settle.{Heap, place, field, settled}
-use Rattle.rules.specs.Call.{Answer, callOf, callsOf, callsIn, isNought, check, hold}
+use Rattle.rules.specs.Call.{Answer, callOf, callsOf, callsIn, check, hold}
 use Rattle.rules.specs.Step.{Stepped, settledIf, full, noneFree, takeCell, doNew, run, step, calls, batch}
 use Rattle.rules.specs.Rows.{Lent, rowsOf, headOf, heapOf}
 use Rattle.rules.specs.Sound.{Sound, Sized, heldAmong, times}
 use Rattle.rules.specs.Refusals.{Batched, answerWords, answered, accepted, batchOf, auditOf, isSound}
-use Rattle.rules.specs.Run.{ours, Said, said}
-use Rattle.rules.specs.Demands.{Callable, ExactBelowCap, isNew, handedOut, freeCells, newWords, Demand2}
-use Rattle.rules.proofs.Invariant.{Inv, Ended}
+use Rattle.rules.specs.Run.{ours, said}
+use Rattle.rules.specs.Demands.{handedOut, freeCells, newWords, Demand2}
+use Rattle.rules.proofs.Invariant.{Inv}
 use Rattle.rules.proofs.Fine.{fine-of}
 use Rattle.rules.proofs.Tests.{sound-true, sound-false}
 use Rattle.rules.proofs.Reclaim.{lives}
@@ -33,6 +32,7 @@ use Rattle.rules.proofs.Calls.{AllFit, calls-in-fit}
 use Rattle.rules.proofs.Step.{settled-done, step-inv}
 use Rattle.rules.proofs.Facts as facts
 use Rattle.rules.proofs.Roundtrip.{rows-of-heap}
+use Rattle.rules.proofs.Whole.{twice}
 use Rattle.rules.proofs.Entry.{entry-ended, exit-ended, exit-sized, exit-sound}
 use Rattle.rules.proofs.Demand1.{Taken, taken, same-calls, answers-long, audit-0, audit-4, demand-1}
 
@@ -43,11 +43,8 @@ free-lives : (fs : List Field) (n : ℕ) → length fs ≡ 2 * n → ((a b : ℕ
 free-lives [] n e p = omega arith
 free-lives (f ∷ []) n e p = absurd (omega arith)
 free-lives (f ∷ g ∷ fs) zero e p = absurd (omega arith)
-free-lives (f ∷ g ∷ fs) (suc n) e p = go f g (p 0) (free-lives fs n (omega arith) (λ a b q. p (suc a) b (ap (λ (i : ℕ). getD (f ∷ g ∷ fs) i Nothing) (next a) ∙ q)))
+free-lives (f ∷ g ∷ fs) (suc n) e p = go f g (p 0) (free-lives fs n (omega arith) (λ a b q. p (suc a) b (ap (λ (i : ℕ). getD (f ∷ g ∷ fs) i Nothing) (twice a) ∙ q)))
   where
-    next : (a : ℕ) → 2 * suc a + 1 ≡ suc (suc (2 * a + 1))
-    next a = omega arith
-
     in-field-1 : (f g : Field) → ((b : ℕ) → g ≡ Free b → ⊥) → times 3 (map kindOf fs) + lives fs ≡ n
         → times 3 (map kindOf (f ∷ fs)) + lives (f ∷ g ∷ fs) ≡ suc n → times 3 (map kindOf (f ∷ g ∷ fs)) + lives (f ∷ g ∷ fs) ≡ suc n
     in-field-1 f Nothing d i e = omega arith
@@ -124,9 +121,6 @@ module _ {h : Head} {r : Lent} (Z : Sized h r) (S : Sound h r) (v : ℕ) (k : v 
   unfolding accepted answered batch calls heapOf
   new-status = refl
 
-  open-heap : Ended (sizesOf h) (heapOf h r)
-  open-heap = entry-ended Z S
-
   first-is : heapOf h r .first ≡ h .free
   unfolding heapOf
   first-is = refl
@@ -136,8 +130,8 @@ module _ {h : Head} {r : Lent} (Z : Sized h r) (S : Sound h r) (v : ℕ) (k : v 
   fourteen =
       let ok = fine-of (Z .limits) in
       let e = ap (λ (o : Batched). getD (o .answers) 0 (negsuc 0)) new-left ∙ new-status in
-      let f = facts.fourteen-full (sizesOf h) ok v (heapOf h r) (open-heap .inv) in
-      let a = ap (noneFree (sizesOf h)) (facts.settled-again (sizesOf h) ok (heapOf h r) open-heap) in (
+      let f = facts.fourteen-full (sizesOf h) ok v (heapOf h r) ((entry-ended Z S) .inv) in
+      let a = ap (noneFree (sizesOf h)) (facts.settled-again (sizesOf h) ok (heapOf h r) (entry-ended Z S)) in (
         λ p. let w : step (sizesOf h) (New v) (heapOf h r) .answer .status ≡ 14 = cc in sym first-is ∙ eqb-true _ _ (sym a ∙ f .0 w),
         λ p. e ∙ ap pos (f .1 (a ∙ eq-eqb _ _ (first-is ∙ p))),
       )
@@ -162,9 +156,9 @@ module _ {h : Head} {r : Lent} (Z : Sized h r) (S : Sound h r) (v : ℕ) (k : v 
     unfolding takeCell hold heapOf
     new-holds =
         let ok = fine-of (Z .limits) in
-        let I : Inv (sizesOf h) (takeCell v (heapOf h r)) = subst (λ (o : Stepped). Inv (sizesOf h) (o .heap)) new-taken (step-inv (sizesOf h) ok (New v) (heapOf h r) (open-heap .inv) (fit .0)) in
+        let I : Inv (sizesOf h) (takeCell v (heapOf h r)) = subst (λ (o : Stepped). Inv (sizesOf h) (o .heap)) new-taken (step-inv (sizesOf h) ok (New v) (heapOf h r) ((entry-ended Z S) .inv) (fit .0)) in
         let e = settled-done (sizesOf h) ok (takeCell v (heapOf h r)) I .1 .1 in
-        let long : v < length (heapOf h r .shape .variables) = let g = open-heap .inv .variables-long in omega arith in
+        let long : v < length (heapOf h r .shape .variables) = let g = (entry-ended Z S) .inv .variables-long in omega arith in
         rw (new-heap, e) (getD-set-same (heapOf h r .shape .variables) v (some (h .free)) none long)
 
     handed : (getD (batchOf h r (newWords v) row .answers) 0 (negsuc 0) ≡ pos 0) × (getD (batchOf h r (newWords v) row .rows .variables) v (negsuc 0) ≡ pos (h .free))

@@ -1,10 +1,5 @@
 -- The three demands, met by our heap and by every heap with the entry points' contracts. Assumes nothing.
-use Prim.Native.Nat.{ℕ}
 use mathlib.Core.Path.{_≡_, sym, _∙_, subst}
-use mathlib.Core.List.{List}
-use lib.IntN.{ℤ}
-use Rattle.rules.specs.declared.Head.{Head}
-use Rattle.rules.specs.Rows.{Lent}
 use Rattle.rules.specs.Run.{Heaps, ours}
 use Rattle.rules.specs.Demands.{Demand1, Demand2, Demand3, Contracts}
 use Rattle.rules.proofs.Demand1 as one

@@ -1,27 +1,23 @@
 -- Rows that pass the checks are those of a heap at a batch's end, and so are the rows that an accepted batch leaves. Assumes nothing.
-use Prim.Native.Nat.{ℕ, zero, suc, _+_, _*_}
-use mathlib.Core.Path.{_≡_, refl, sym, ap, _∙_, subst₂}
-use mathlib.Core.List.{List, [], _∷_, map}
+use Prim.Native.Nat.{ℕ, suc}
+use mathlib.Core.Path.{_≡_, refl, ap, _∙_}
+use mathlib.Core.List.{List, [], _∷_}
 use native.Mathlib.Omega.{arith}
 use lib.IntN.{ℤ}
 use lib.ListN.{length, length-map}
 use Rattle.rules.specs.declared.Head.{Head}
 use Rattle.rules.specs.declared.Call.{Call}
-use Rattle.rules.specs.Head.{Sizes, sizesOf}
-use Rattle.rules.specs.Field.{heldOf}
-use Rattle.rules.specs.Settle.{Heap}
+use Rattle.rules.specs.Head.{sizesOf}
 use Rattle.rules.specs.Step.{batch}
-use Rattle.rules.specs.Rows.{Lent, fieldsOf, rowsOf, headOf, heapOf}
+use Rattle.rules.specs.Rows.{Lent, fieldsOf, heapOf}
 use Rattle.rules.specs.Sound.{Sound, Sized}
-use Rattle.rules.specs.Refusals.{Batched, cleared, accepted, batchOf}
-use Rattle.rules.specs.Demands.{Callable}
-use Rattle.rules.proofs.Invariant.{Inv, Ended}
-use Rattle.rules.proofs.Fine.{Fine, fine-of}
-use Rattle.rules.proofs.Calls.{AllFit, calls-in-fit}
+use Rattle.rules.specs.Refusals.{cleared, accepted}
+use Rattle.rules.proofs.Invariant.{Ended}
+use Rattle.rules.proofs.Fine.{fine-of}
+use Rattle.rules.proofs.Calls.{AllFit}
 use Rattle.rules.proofs.Step.{batch-ended}
 use Rattle.rules.proofs.Roundtrip.{sized-of-ended, rows-of-heap, head-of-heap}
 use Rattle.rules.proofs.Bridge.{Plain, ended-sound, sound-ended}
-use Rattle.rules.proofs.Demand1.{Taken, taken}
 
 fields-long : (ks : List ℕ) (vs : List ℤ) → length ks ≡ length vs → length (fieldsOf ks vs) ≡ length ks
 fields-long [] vs e = refl

@@ -1,21 +1,20 @@
 -- Figures are hidden: two runs from fresh heaps, equal but for the figures put, agree in all but the figures themselves. Assumes nothing.
 use Prim.Native.Nat.{ℕ, _*_}
 use mathlib.Core.Path.{_≡_, refl, ap}
-use mathlib.Core.Bool.{Bool, true, false, cond}
+use mathlib.Core.Bool.{Bool, true, false}
 use mathlib.Core.Option.{Option, none, some}
 use mathlib.Core.List.{List, [], _∷_}
-use native.Mathlib.Omega.{arith}
 use lib.Dec.{leb}
 use lib.IntN.{ℤ}
 use lib.ListN.{length}
 use Rattle.rules.specs.declared.Head.{Head}
 use Rattle.rules.specs.declared.Call.{Call}
-use Rattle.rules.specs.Head.{Sizes, sizesOf, freshHead, zeroHead}
+use Rattle.rules.specs.Head.{Sizes, sizesOf, freshHead}
 use Rattle.rules.specs.Settle.{Heap}
 use Rattle.rules.specs.Call.{callsIn}
 use Rattle.rules.specs.Step.{batch, fresh}
 use Rattle.rules.specs.Rows.{Lent, rowsOf, headOf}
-use Rattle.rules.specs.Refusals.{After, Batched, outcome, leaves, leavesWith, answered, isSized, freshOf, batchOf}
+use Rattle.rules.specs.Refusals.{Batched, outcome, leavesWith, freshOf}
 use Rattle.rules.specs.Run.{ours, Batch, runFrom, runOf, AlikeBatches, AlikeRows, AlikeBatched, AlikeRuns}
 use Rattle.rules.proofs.Invariant.{Ended}
 use Rattle.rules.proofs.Erase.{erase, SameCalls, batch-blind}

@@ -1,5 +1,5 @@
 -- Sizes within their limits. Assumes nothing.
-use Prim.Native.Nat.{ℕ, _≤_}
+use Prim.Native.Nat.{_≤_}
 use Rattle.rules.specs.declared.Head.{Head}
 use Rattle.rules.specs.Head.{Sizes, Limits, sizesOf}
 

@@ -17,7 +17,7 @@ use Rattle.rules.specs.Sound.{times}
 use Rattle.rules.proofs.Invariant.{refs, used, live, view, Chain, Fitting, Inv, Ended}
 
 -- the fields of a fresh heap, by their place: i is 2 * b or 2 * b + 1
-fresh-len : (a k : ℕ) → length (freeFrom a k) ≡ 2 * k
+pub fresh-len : (a k : ℕ) → length (freeFrom a k) ≡ 2 * k
 unfolding freeFrom
 fresh-len a zero = refl
 fresh-len a (suc k) = omega (arith, fresh-len (suc a) k)

@@ -1,9 +1,9 @@
 -- What holds of a heap at every moment, in the middle of a batch too: the tables, as they will be once the log is replayed, agree with the pointers. Assumes nothing.
-use Prim.Native.Nat.{ℕ, zero, suc, _+_, _*_, _<_, _≤_, pred}
+use Prim.Native.Nat.{ℕ, zero, suc, _+_, _*_, _<_, _≤_}
 use mathlib.Core.Path.{_≡_}
 use mathlib.Core.Logic.{_⊎_}
 use mathlib.Core.Bool.{Bool, true, false, cond}
-use mathlib.Core.Option.{Option, none, some}
+use mathlib.Core.Option.{Option, none}
 use mathlib.Core.List.{List, [], _∷_}
 use lib.Dec.{eqb}
 use lib.ListN.{length, getD}
@@ -13,7 +13,7 @@ use Rattle.rules.specs.Head.{Sizes}
 use Rattle.rules.specs.Field.{Signed32}
 use Rattle.rules.specs.Table.{has, countIn}
 use Rattle.rules.specs.Rules.{Tables, Transaction, allocates, creates, destroys, replay}
-use Rattle.rules.specs.Settle.{Shape, Heap, holds, pick, place, field}
+use Rattle.rules.specs.Settle.{Heap, holds, pick, place, field}
 use Rattle.rules.specs.Rows.{Kept}
 use Rattle.rules.specs.Sound.{times}
 

@@ -238,6 +238,17 @@ module _ (n cap : ℕ) (cap3 : 3 ≤ cap) (fs : List Field) (hs : List (Option �
       go b h true e = absurd (true≢false (sym h ∙ rw (eqb-true b a e) unheld))
       go b h false e = g .held b h
 
+-- ---- what freeing leaves, reclaiming leaves
+
+pub reclaim-leaves : {A : Type 0} (f : Heap → A) (cap : ℕ) (hs : List (Option ℕ)) → ((a : ℕ) (h : Heap) → f (freeCell cap a h) ≡ f h) → (k : ℕ) (h : Heap) → f (reclaim cap hs k h) ≡ f h
+unfolding reclaim
+reclaim-leaves f cap hs e zero h = refl
+reclaim-leaves f cap hs e (suc k) h = go (λ a. reclaim-leaves f cap hs e k (freeCell cap a h) ∙ e a h) (pick hs (h .tables .zct)) refl
+  where
+    go : ((a : ℕ) → f (reclaim cap hs k (freeCell cap a h)) ≡ f h) → (o : Option ℕ) → pick hs (h .tables .zct) ≡ o → f (reclaim cap hs (suc k) h) ≡ f h
+    go ih none q = rw q
+    go ih (some a) q = rw q (ih a)
+
 -- ---- reclaiming comes to an end
 
 -- the cells in use
@@ -374,14 +385,6 @@ module _ (n cap : ℕ) (cap3 : 3 ≤ cap) (hs : List (Option ℕ)) where
       go : (o : Option ℕ) → pick hs (h .tables .zct) ≡ o → ((h : Heap) → G h → P h → P (reclaim cap hs k h)) → P (turn o)
       go none e ih = p
       go (some a) e ih = ih (freeCell cap a h) (freeCell-good h g a e) (f h a g e p)
-
-  pub reclaim-log : (k : ℕ) (h : Heap) → G h → reclaim cap hs k h .log ≡ h .log
-  unfolding freeCell
-  reclaim-log k h g = reclaim-keeps (λ h′. h′ .log ≡ h .log) (λ h a g e p. p) k h g refl
-
-  pub reclaim-variables : (k : ℕ) (h : Heap) → G h → reclaim cap hs k h .shape .variables ≡ h .shape .variables
-  unfolding freeCell
-  reclaim-variables k h g = reclaim-keeps (λ h′. h′ .shape .variables ≡ h .shape .variables) (λ h a g e p. p) k h g refl
 
   -- cells in use and cells freed make one sum
   pub reclaim-sum : (k : ℕ) (h : Heap) → G h → lives (reclaim cap hs k h .shape .fields) + reclaim cap hs k h .freed ≡ lives (h .shape .fields) + h .freed

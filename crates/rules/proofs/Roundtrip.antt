@@ -4,24 +4,24 @@ use mathlib.Core.Path.{_≡_, refl, sym, ap, _∙_}
 use mathlib.Core.Option.{Option, none, some}
 use mathlib.Core.List.{List, [], _∷_, _++_, map}
 use native.Mathlib.Omega.{arith}
-use lib.ListN.{length, take, drop, getD, replicate, length-append, length-drop, length-replicate, getD-replicate, length-map, take-append-drop, List·getD-eq-default}
+use lib.ListN.{length, take, drop, getD, replicate, length-append, length-drop, length-replicate, getD-replicate, length-map, take-append-drop}
 use lib.Seq.{ext-getD, getD-drop, length-take-le, take-at}
 use lib.IntN.{ℤ, pos, negsuc}
 use Rattle.rules.specs.declared.Head.{Head}
 use Rattle.rules.specs.declared.Call.{Call}
 use Rattle.rules.specs.declared.Field.{Field}
 use Rattle.rules.specs.declared.Field.the-variants.{Nothing, Figure, Cell, Free}
-use Rattle.rules.specs.Head.{Sizes, Limits, sizesOf}
+use Rattle.rules.specs.Head.{Sizes, sizesOf}
 use Rattle.rules.specs.Field.{kindOf, valueOf, fieldOf, variableOf, heldOf}
-use Rattle.rules.specs.Table.{Entry, entry, addresses, counts, pad, Above, Below, Ascending}
-use Rattle.rules.specs.Rules.{Tables, Transaction, allocates, creates, destroys}
-use Rattle.rules.specs.Settle.{Shape, Heap, place, field}
-use Rattle.rules.specs.Step.{Result, batch}
-use Rattle.rules.specs.Rows.{Lent, lent, words, rowsOf, headOf, fieldsOf, entriesOf, heapOf}
-use Rattle.rules.specs.Sound.{Word, Live, Mark, Variable, ZeroFrom, Sound, Lengths, Sized}
+use Rattle.rules.specs.Table.{Entry, addresses, counts, pad, Above, Below, Ascending}
+use Rattle.rules.specs.Rules.{Transaction, allocates, creates, destroys}
+use Rattle.rules.specs.Settle.{Heap, place, field}
+use Rattle.rules.specs.Step.{batch}
+use Rattle.rules.specs.Rows.{Lent, words, rowsOf, headOf, fieldsOf, entriesOf, heapOf}
+use Rattle.rules.specs.Sound.{Word, Variable, ZeroFrom, Sound, Sized}
 use Rattle.rules.specs.Refusals.{cleared}
-use Rattle.rules.proofs.Positions.{Half, half}
-use Rattle.rules.proofs.Invariant.{Chain, Frees, Inv, Ended}
+use Rattle.rules.proofs.Positions.{half}
+use Rattle.rules.proofs.Invariant.{Chain, Inv, Ended}
 use Rattle.rules.proofs.Fine.{Fine}
 
 -- ---- written down and read back
@@ -106,13 +106,13 @@ values-again [] (v ∷ vs) e F = absurd (omega arith)
 values-again (k ∷ ks) [] e F = absurd (omega arith)
 values-again (k ∷ ks) (v ∷ vs) e F = rw (F 0 (omega arith) .1, values-again ks vs (omega arith) (λ i h. F (suc i) (omega arith)))
 
-variable-again : (n : ℕ) (ks : List ℕ) (x : ℤ) → Variable n ks x → variableOf (heldOf x) ≡ x
+pub variable-again : (n : ℕ) (ks : List ℕ) (x : ℤ) → Variable n ks x → variableOf (heldOf x) ≡ x
 variable-again n ks (pos a) A = refl
 variable-again n ks (negsuc zero) A = refl
 variable-again n ks (negsuc (suc a)) A =
     absurd (let h = A (λ e. let z : _≡_ {A = ℕ} (suc a) 0 = cc in omega arith) .cell in omega arith)
 
-variables-again : (n : ℕ) (ks : List ℕ) (xs : List ℤ) → ((v : ℕ) → v < length xs → Variable n ks (getD xs v (pos 0))) → map variableOf (map heldOf xs) ≡ xs
+pub variables-again : (n : ℕ) (ks : List ℕ) (xs : List ℤ) → ((v : ℕ) → v < length xs → Variable n ks (getD xs v (pos 0))) → map variableOf (map heldOf xs) ≡ xs
 variables-again n ks [] A = refl
 variables-again n ks (x ∷ xs) A = rw (variable-again n ks x (A 0 (omega arith)), variables-again n ks xs (λ v h. A (suc v) (omega arith)))
 
@@ -185,7 +185,7 @@ module _ {h : Head} {r : Lent} (Z : Sized h r) where
 
 -- ---- lengths
 
-beside : (n y : ℕ) (z : List ℕ) → y < n → Above y z → Ascending z → Below n z → suc y + length z ≤ n
+pub beside : (n y : ℕ) (z : List ℕ) → y < n → Above y z → Ascending z → Below n z → suc y + length z ≤ n
 beside n y [] l s t b = omega arith
 beside n y (w ∷ z) l s t b = let h = s .0 in omega (arith, beside n w z (b .0) (t .0) (t .1) (b .1))
 

@@ -1,30 +1,28 @@
 -- In a run every moment's head and rows are those of a heap at a batch's end; a batch there is refused with 2 or 3, or worked. Assumes nothing.
 use Prim.Native.Nat.{ℕ, _*_}
-use mathlib.Core.Path.{_≡_, refl, sym, ap, _∙_}
+use mathlib.Core.Path.{_≡_, refl}
 use mathlib.Core.Bool.{Bool, true, false, cond}
 use mathlib.Core.Option.{Option, none, some}
-use mathlib.Core.List.{List, [], _∷_, map}
+use mathlib.Core.List.{List, _∷_}
 use native.Mathlib.Omega.{arith}
 use lib.Dec.{leb}
 use lib.IntN.{ℤ}
-use lib.ListN.{length, length-map}
-use Rattle.rules.specs.declared.Head.{Head}
+use lib.ListN.{length}
 use Rattle.rules.specs.declared.Call.{Call}
 use Rattle.rules.specs.Head.{Sizes, sizesOf, freshHead, zeroHead}
 use Rattle.rules.specs.Settle.{Heap}
 use Rattle.rules.specs.Call.{callsIn}
 use Rattle.rules.specs.Step.{batch, fresh}
-use Rattle.rules.specs.Rows.{Lent, rowsOf, headOf, heapOf}
-use Rattle.rules.specs.Sound.{Sound, Sized}
-use Rattle.rules.specs.Refusals.{After, Batched, outcome, leaves, leavesWith, cleared, isSized, isSound, answered, accepted, checkSound, checkAnswers, checkCalls, freshOf, batchOf}
+use Rattle.rules.specs.Rows.{Lent, rowsOf, headOf}
+use Rattle.rules.specs.Refusals.{After, Batched, outcome, leaves, leavesWith, isSized, answered, accepted, checkSound, checkAnswers, checkCalls, freshOf, batchOf}
 use Rattle.rules.specs.Run.{ours, Batch, runFrom}
-use Rattle.rules.proofs.Invariant.{Inv, Ended}
+use Rattle.rules.proofs.Invariant.{Ended}
 use Rattle.rules.proofs.Fine.{Fine, fine-of}
 use Rattle.rules.proofs.Tests.{true-sized, true-sound}
-use Rattle.rules.proofs.Calls.{AllFit, calls-in-fit}
+use Rattle.rules.proofs.Calls.{calls-in-fit}
 use Rattle.rules.proofs.Step.{batch-ended}
-use Rattle.rules.proofs.Roundtrip.{sized-of-ended, batch-of-ended, rows-of-heap, head-of-heap}
-use Rattle.rules.proofs.Bridge.{Plain, ended-sound, sound-ended}
+use Rattle.rules.proofs.Roundtrip.{sized-of-ended, batch-of-ended}
+use Rattle.rules.proofs.Bridge.{ended-sound}
 use Rattle.rules.proofs.Demand1.{fresh-sized}
 
 -- what a batch of these calls leaves: refused with 2 or 3, or worked

@@ -15,15 +15,16 @@ use Rattle.rules.specs.declared.Call.{Call}
 use Rattle.rules.specs.declared.Call.the-variants.{New, Copy, Clear, Link, Put, Blank, Follow, Read, Same, Settle}
 use Rattle.rules.specs.Head.{Sizes}
 use Rattle.rules.specs.Rules.{Tables, allocates, apply, replay}
-use Rattle.rules.specs.Settle.{Shape, Heap, holds, place, store, replayed, settledBy, settled}
+use Rattle.rules.specs.Settle.{Shape, Heap, holds, place, store, freeCell, replayed, settledBy, settled}
 use Rattle.rules.specs.Call.{var, check, logs, hold}
 use Rattle.rules.specs.Step.{Stepped, done, refused, settledIf, full, noneFree, takeCell, doNew, doSettle, doCall, room, run, step, calls, batch}
 use Rattle.rules.specs.Rows.{Kept}
+use Rattle.rules.proofs.Tests.{not-first}
 use Rattle.rules.proofs.Fine.{Fine}
 use Rattle.rules.proofs.Invariant.{refs, live, view, Counted, Good, Frees, Small, Inv, Done, Ended}
 use Rattle.rules.proofs.Tables.{view-own, view-other, change}
 use Rattle.rules.proofs.Sorted.{replay-kept, small-append}
-use Rattle.rules.proofs.Reclaim.{live-store-0, refs-store, length-store, replay-append, lives, lives-le, Plain1, Figures, plain-store, plain-store-0, figures-store, reclaim-good, reclaim-log, reclaim-variables, reclaim-sum, reclaim-plain, reclaim-figures, reclaim-kept}
+use Rattle.rules.proofs.Reclaim.{live-store-0, refs-store, length-store, replay-append, lives, lives-le, Plain1, Figures, plain-store, plain-store-0, figures-store, reclaim-good, reclaim-leaves, reclaim-sum, reclaim-plain, reclaim-figures, reclaim-kept}
 use Rattle.rules.proofs.FreeList.{Taken, frees-store, frees-take, reclaim-frees}
 use Rattle.rules.proofs.Calls.{Fits, AllFit, holds-set, call-good, act-keeps, act-variables, logs-small, logs-long, store-live}
 
@@ -32,6 +33,15 @@ abbrev pub SameCheck : Call → Type 0
 SameCheck c = (a b : Shape) → a .variables ≡ b .variables → check c a ≡ check c b
 
 -- ---- a settle that counts any holds
+
+module _ (s : Sizes) (hs : List (Option ℕ)) (h : Heap) where
+  pub settledBy-log : settledBy s hs h .log ≡ []
+  unfolding settledBy replayed freeCell
+  settledBy-log = reclaim-leaves (λ (x : Heap). x .log) (s .cap) hs (λ a x. refl) (s .n) (replayed (s .cap) h)
+
+  pub settledBy-variables : settledBy s hs h .shape .variables ≡ h .shape .variables
+  unfolding settledBy replayed freeCell
+  settledBy-variables = reclaim-leaves (λ (x : Heap). x .shape .variables) (s .cap) hs (λ a x. refl) (s .n) (replayed (s .cap) h)
 
 module _ (s : Sizes) (ok : Fine s) (hs : List (Option ℕ)) (h : Heap)
     (g : Good (s .n) (s .cap) (h .shape .fields) hs (replay (s .cap) (h .log) (h .tables))) where
@@ -45,14 +55,6 @@ module _ (s : Sizes) (ok : Fine s) (hs : List (Option ℕ)) (h : Heap)
   pub settledBy-done : Done hs (settledBy s hs h)
   unfolding settledBy replayed
   settledBy-done = reclaim-good (s .n) (s .cap) (ok .cap-least) hs (s .n) (replayed (s .cap) h) g few .1
-
-  pub settledBy-log : settledBy s hs h .log ≡ []
-  unfolding settledBy replayed
-  settledBy-log = reclaim-log (s .n) (s .cap) (ok .cap-least) hs (s .n) (replayed (s .cap) h) g
-
-  pub settledBy-variables : settledBy s hs h .shape .variables ≡ h .shape .variables
-  unfolding settledBy replayed
-  settledBy-variables = reclaim-variables (s .n) (s .cap) (ok .cap-least) hs (s .n) (replayed (s .cap) h) g
 
   pub settledBy-sum : lives (settledBy s hs h .shape .fields) + settledBy s hs h .freed ≡ lives (h .shape .fields) + h .freed
   unfolding settledBy replayed
@@ -79,14 +81,14 @@ module _ (s : Sizes) (ok : Fine s) where
 
   pub settled-done : (h : Heap) → Inv s h → (Done (h .shape .variables) (settled s h)) × ((settled s h .log ≡ []) × (settled s h .shape .variables ≡ h .shape .variables))
   unfolding settled
-  settled-done h g = let hs = h .shape .variables in (settledBy-done s ok hs h (g .good), (settledBy-log s ok hs h (g .good), settledBy-variables s ok hs h (g .good)))
+  settled-done h g = let hs = h .shape .variables in (settledBy-done s ok hs h (g .good), (settledBy-log s hs h, settledBy-variables s hs h))
 
   pub settled-inv : (h : Heap) → Inv s h → Inv s (settled s h)
   unfolding settled replay
   settled-inv h g =
       let hs = h .shape .variables in
-      let l = settledBy-log s ok hs h (g .good) in
-      let v = settledBy-variables s ok hs h (g .good) in
+      let l = settledBy-log s hs h in
+      let v = settledBy-variables s hs h in
       record {
         good = rw (l, v) (settledBy-good s ok hs h (g .good));
         frees = settledBy-frees s ok hs h (g .good) (g .frees);
@@ -221,11 +223,7 @@ module _ (s : Sizes) (ok : Fine s) where
 
   -- the settle before a new
   pub new-room : (h : Heap) → Inv s h → length (settledIf (full s 1 h || noneFree s h) s h .log) + 1 ≤ s .l
-  new-room h g = settledIf-room (full s 1 h || noneFree s h) 1 1 h g (either (full s 1 h) (noneFree s h)) (omega arith) (λ x. omega arith)
-    where
-      either : (p q : Bool) → (p || q) ≡ false → p ≡ false
-      either true q e = e
-      either false q e = refl
+  new-room h g = settledIf-room (full s 1 h || noneFree s h) 1 1 h g (not-first (full s 1 h) (noneFree s h)) (omega arith) (λ x. omega arith)
 
   pub doNew-inv : (v : ℕ) (h : Heap) → Inv s h → length (h .log) + 1 ≤ s .l → Inv s (doNew s v h .heap)
   unfolding doNew

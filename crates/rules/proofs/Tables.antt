@@ -1,7 +1,7 @@
 -- The two tables seen at one address, and the count that they stand for. Assumes nothing.
 use Prim.Native.Nat.{ℕ, zero, suc, _<_, _≤_, pred}
 use mathlib.Core.Path.{_≡_, refl, sym}
-use mathlib.Core.Bool.{Bool, true, false, _||_, cond}
+use mathlib.Core.Bool.{Bool, true, false, cond}
 use mathlib.Core.List.{List, [], _∷_}
 use native.Mathlib.Omega.{arith}
 use lib.Dec.{eqb, ltb}

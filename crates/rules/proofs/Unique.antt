@@ -1,19 +1,19 @@
 -- Rows are one heap's, and a heap has one set of rows. Assumes nothing.
-use Prim.Native.Nat.{ℕ, zero, suc, _+_, _*_}
+use Prim.Native.Nat.{ℕ, _*_}
 use mathlib.Core.Path.{_≡_, refl, sym, ap, _∙_}
 use mathlib.Core.Bool.{cond}
 use mathlib.Core.Option.{Option}
 use mathlib.Core.List.{List, [], _∷_, map}
 use native.Mathlib.Omega.{arith}
 use lib.Dec.{eqb}
-use lib.ListN.{length, take, length-map}
+use lib.ListN.{length, take}
 use lib.IntN.{ℤ}
 use Rattle.rules.specs.declared.Used.{Used}
 use Rattle.rules.specs.declared.Field.{Field}
-use Rattle.rules.specs.Field.{kindOf, valueOf, variableOf, heldOf}
-use Rattle.rules.specs.Table.{Entry, addresses, counts, pad}
+use Rattle.rules.specs.Field.{variableOf, heldOf}
+use Rattle.rules.specs.Table.{counts, pad}
 use Rattle.rules.specs.Rules.{Tables, Transaction, allocates, creates, destroys}
-use Rattle.rules.specs.Settle.{Shape, Heap}
+use Rattle.rules.specs.Settle.{Heap}
 use Rattle.rules.specs.Rows.{words, fieldsOf, entriesOf, Is, Are, Cells, Rows, Logged, Whole}
 use Rattle.rules.proofs.Roundtrip.{fields-back, variables-back, entries-back, take-pad, length-words}
 

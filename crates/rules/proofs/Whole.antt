@@ -1,40 +1,32 @@
 -- The rows of a heap that keeps the invariant are that heap, and rows that are a heap are those written down for it. Assumes nothing.
 use Prim.Native.Nat.{ℕ, zero, suc, _+_, _*_, _-_, _≤_, _<_}
-use mathlib.Core.Path.{_≡_, refl, sym, ap, _∙_, subst}
-use mathlib.Core.Bool.{Bool, true, false, cond, _||_, true≢false, or-true}
-use mathlib.Core.Option.{Option, none, some}
-use mathlib.Core.List.{List, [], _∷_, _++_, map}
+use mathlib.Core.Path.{_≡_, refl, sym, ap, _∙_}
+use mathlib.Core.Bool.{Bool, true, false, cond}
+use mathlib.Core.Option.{none, some}
+use mathlib.Core.List.{List, [], _∷_}
 use native.Mathlib.Omega.{arith}
 use lib.Dec.{eqb}
-use lib.ListN.{length, getD, replicate, length-map, length-replicate, List·getD-append}
+use lib.ListN.{length, getD, replicate, length-map, List·getD-append}
 use lib.IntN.{ℤ}
 use borrow.Author.Tests.{eqb-true}
 use Rattle.rules.specs.declared.Head.{Head}
 use Rattle.rules.specs.declared.Used.{Used}
 use Rattle.rules.specs.declared.Field.{Field}
 use Rattle.rules.specs.declared.Field.the-variants.{Nothing, Figure, Cell, Free}
-use Rattle.rules.specs.Head.{Sizes, Limits, sizesOf}
-use Rattle.rules.specs.Field.{kindOf, valueOf, variableOf}
-use Rattle.rules.specs.Table.{Entry, addresses, counts, pad}
-use Rattle.rules.specs.Rules.{Tables, Transaction, allocates, creates, destroys}
-use Rattle.rules.specs.Settle.{Shape, Heap, holds, place, field}
-use Rattle.rules.specs.Rows.{Lent, lent, words, rowsOf, headOf, heapOf, Is, Are, Inside, Cells, Rows, Logged, Whole}
+use Rattle.rules.specs.Head.{Sizes, sizesOf}
+use Rattle.rules.specs.Table.{addresses, counts, pad}
+use Rattle.rules.specs.Rules.{Transaction, allocates, creates, destroys}
+use Rattle.rules.specs.Settle.{Heap, place, field}
+use Rattle.rules.specs.Rows.{Lent, lent, words, rowsOf, headOf, heapOf, Inside, Logged, Whole}
 use Rattle.rules.specs.Sound.{times, Sound, Sized}
-use Rattle.rules.specs.Refusals.{cleared}
-use Rattle.rules.proofs.Invariant.{hit, refs, used, live, Counted, Good, Chain, Frees, Small, Inv}
-use Rattle.rules.proofs.Tables.{eqb-self}
+use Rattle.rules.proofs.Invariant.{used, live, Chain, Small, Inv}
 use Rattle.rules.proofs.Reclaim.{live-below}
 use Rattle.rules.proofs.Fine.{Fine, fine-of}
 use Rattle.rules.proofs.Calls.{holds-var}
-use Rattle.rules.proofs.Positions.{Half, half}
-use Rattle.rules.proofs.Roundtrip.{length-pad, length-words, mark-there, chain-within, first-within, zct-fits, addresses-fit, counts-fit, log-fits, head-of-heap, rows-of-heap}
+use Rattle.rules.proofs.Positions.{Half, half, some-refs}
+use Rattle.rules.proofs.Roundtrip.{length-pad, length-words, mark-there, chain-within, first-within, zct-fits, addresses-fit, counts-fit, head-of-heap, rows-of-heap}
 
 -- ---- what fields and variables name is inside
-
-refs-at : (fs : List Field) (i b : ℕ) → getD fs i Nothing ≡ Cell b → 1 ≤ refs fs b
-refs-at [] i b e = absurd (let z : _≡_ {A = ℕ} 0 1 = cc in omega arith)
-refs-at (x ∷ fs) zero b e = rw (e, eqb-self b) (omega arith)
-refs-at (x ∷ fs) (suc i) b e = omega (arith, refs-at fs i b e)
 
 mark-dead : (fs : List Field) (i b : ℕ) → getD fs i Nothing ≡ Free b → used (getD fs i (Free 0)) ≡ false
 mark-dead [] i b e = refl
@@ -63,7 +55,7 @@ module _ {s : Sizes} {h : Heap} (I : Inv s h) where
     where
       go : (q : Bool) → live (h .shape .fields) b ≡ q → b < s .n
       go true d = live-below (s .n) (h .shape .fields) (I .good .len) b d
-      go false d = absurd (let k = I .good .counted b .gone d .1 in let r = refs-at (h .shape .fields) i b e in omega arith)
+      go false d = absurd (let k = I .good .counted b .gone d .1 in let r = some-refs (h .shape .fields) i b e in omega arith)
 
   -- the mark of a free cell names the next of the free list
   pub mark-inside : (i b : ℕ) → getD (h .shape .fields) i Nothing ≡ Free b → b ≤ s .n
@@ -103,7 +95,7 @@ module _ {s : Sizes} {h : Heap} (I : Inv s h) where
 
 -- ---- the log's row
 
-twice : (i : ℕ) → 2 * suc i + 1 ≡ suc (suc (2 * i + 1))
+pub twice : (i : ℕ) → 2 * suc i + 1 ≡ suc (suc (2 * i + 1))
 twice i = omega arith
 
 words-small : (n : ℕ) (xs : List Transaction) → Small n xs → (i : ℕ) → i < length xs → getD (words xs) (2 * i + 1) 0 < n

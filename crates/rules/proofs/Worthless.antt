@@ -1,15 +1,13 @@
 -- Each worthless heap breaks a named fact of a demand. Assumes nothing.
-use Prim.Native.Nat.{ℕ, zero, suc, _+_, _*_, _-_, _<_, _≤_}
+use Prim.Native.Nat.{ℕ, _-_}
 use mathlib.Core.Path.{_≡_, refl, sym, _∙_}
-use mathlib.Core.Bool.{Bool, true, false, cond, false≢true}
-use mathlib.Core.Option.{Option, none, some}
+use mathlib.Core.Bool.{false, false≢true}
+use mathlib.Core.Option.{some}
 use mathlib.Core.List.{List, [], _∷_}
 use native.Mathlib.Omega.{arith}
 use lib.IntN.{ℤ, pos, negsuc}
-use lib.ListN.{getD, replicate}
+use lib.ListN.{getD}
 use Rattle.rules.specs.declared.Head.{Head}
-use Rattle.rules.specs.declared.Call.{Call}
-use Rattle.rules.specs.declared.Call.the-variants.{New, Clear, Put, Read}
 use Rattle.rules.specs.Head.{freshHead}
 use Rattle.rules.specs.Sound.{Sound, Sized, Word, heldAmong}
 use Rattle.rules.specs.Decide.{sound?, sized?, dec-word}

@@ -2,11 +2,10 @@
 use Prim.Native.Nat.{ℕ}
 use mathlib.Core.Path.{_≡_}
 use mathlib.Core.List.{List, [], _∷_, _++_}
-use lib.IntN.{ℤ, pos}
-use Rattle.rules.specs.declared.Field.{Field}
+use lib.IntN.{pos}
 use Rattle.rules.specs.declared.Field.the-variants.{Nothing, Free}
 use Rattle.rules.specs.declared.Call.{Call}
-use Rattle.rules.specs.declared.Call.the-variants.{New, Clear, Link, Put, Blank, Read, Settle}
+use Rattle.rules.specs.declared.Call.the-variants.{New, Clear, Link, Put, Blank, Settle}
 use Rattle.rules.specs.Head.{Sizes}
 use Rattle.rules.specs.Table.{entry}
 use Rattle.rules.specs.Step as P

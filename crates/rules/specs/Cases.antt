@@ -1,5 +1,5 @@
 -- Small heaps worked out: P1 to P11 of document 01 as one table. Assumes nothing.
-use Prim.Native.Nat.{ℕ, zero, suc, _+_, _*_}
+use Prim.Native.Nat.{ℕ, suc, _+_, _*_}
 use mathlib.Core.Bool.{Bool, true, false, _&&_}
 use mathlib.Core.List.{List, [], _∷_, _++_}
 use lib.Dec.{eqb}
@@ -10,7 +10,7 @@ use Rattle.rules.specs.declared.Call.{Call}
 use Rattle.rules.specs.declared.Call.the-variants.{New, Copy, Clear, Link, Put, Blank, Follow, Read, Same, Settle}
 use Rattle.rules.specs.Head.{freshHead}
 use Rattle.rules.specs.Rows.{Lent, lent}
-use Rattle.rules.specs.Sound.{next}
+use Rattle.rules.specs.Sound.{listFrom}
 use Rattle.rules.specs.Refusals.{After, Batched, freshOf, batchOf}
 
 -- ---- what a case says
@@ -94,10 +94,6 @@ statusesAre (s ∷ []) ks = false
 statusesAre (s ∷ x ∷ row) [] = false
 statusesAre (s ∷ x ∷ row) (k ∷ ks) = sameℤ s (pos k) && statusesAre row ks
 
-abbrev pub freeFrom : ℕ → ℕ → Lent → ℕ → List ℕ
-freeFrom zero n r a = []
-freeFrom (suc k) n r a = elim (eqb a n) [ true ↦ [] | false ↦ a ∷ freeFrom k n r (next n (r .values) a) ]
-
 abbrev pub sameRows : Lent → Lent → Bool
 sameRows r q =
     sameℕs (r .kinds) (q .kinds)
@@ -121,7 +117,7 @@ holdsOf n o (frees i k) = sameℤ (getD (o .answers) (2 * i) (negsuc 6)) (pos 0)
 holdsOf n o (total k) = eqb (o .outcome .count) k
 holdsOf n o (zct l) = sameℕs (take (o .outcome .head .zct) (o .rows .zct)) l
 holdsOf n o (mrt l ks) = sameℕs (take (o .outcome .head .mrt) (o .rows .mrt)) l && sameℕs (take (o .outcome .head .mrt) (o .rows .counts)) ks
-holdsOf n o (freeList l) = sameℕs (freeFrom (suc n) n (o .rows) (o .outcome .head .free)) l
+holdsOf n o (freeList l) = sameℕs (listFrom n (o .rows .values) (suc n) (o .outcome .head .free)) l
 holdsOf n o stillFresh = sameHead (o .outcome .head) (freshHead n 3 4 3) && sameRows (o .rows) (freshly n .rows)
 
 abbrev pub allOf : ℕ → Batched → List Claim → Bool

@@ -11,9 +11,9 @@ use borrow.Author.Tests.{eqb-true, eqb-false, eq-eqb, ne-eqb, leb-true, leb-fals
 use lib.Signed.{mag}
 use Rattle.rules.specs.declared.Head.{Head}
 use Rattle.rules.specs.Head.{Limits}
-use Rattle.rules.specs.Field.{Signed32, addressOf}
+use Rattle.rules.specs.Field.{addressOf}
 use Rattle.rules.specs.Rows.{Lent}
-use Rattle.rules.specs.Sound.{kind, word, mark, Live, Mark, Word, Words, Variable, Variables, TableRow, ZeroFrom, At, NotIn, Ranged, pointers, pointersTo, heldAmong, next, Path, times, FreeList, Sound, Lengths, Sized}
+use Rattle.rules.specs.Sound.{kind, word, mark, Live, Mark, Word, Words, Variables, TableRow, ZeroFrom, NotIn, Ranged, pointersTo, heldAmong, next, FreePath, listFrom, times, FreeList, Sound, Lengths, Sized}
 
 -- ---- ways to decide
 
@@ -140,11 +140,6 @@ dec-ranged cs used cap = dec-all used _ (λ j. Dec·and (decLe 2 (getD cs j 0)) 
 
 -- ---- the free list
 
--- the addresses from one on, at most k
-abbrev follow : ℕ → List ℤ → ℕ → ℕ → List ℕ
-follow n vs zero from = []
-follow n vs (suc k) from = cond (eqb from n) [] (from ∷ follow n vs k (next n vs from))
-
 -- all that stands in a list, by the numbers below b
 total : List ℕ → ℕ → ℕ
 total l zero = 0
@@ -178,12 +173,12 @@ total-most l zero f = omega arith
 total-most l (suc b) f = let e = total-most l b (λ i h. f i (omega arith)) in let w = f b (omega arith) in omega arith
 
 module _ (n : ℕ) (ks : List ℕ) (vs : List ℤ) where
-  abbrev dec-path : (from : ℕ) (l : List ℕ) (to : ℕ) → Dec (Path n ks vs from l to)
+  abbrev dec-path : (from : ℕ) (l : List ℕ) (to : ℕ) → Dec (FreePath n ks vs from l to)
   dec-path from [] to = ℕ-discrete from to
   dec-path from (x ∷ l) to = Dec·and (ℕ-discrete x from) (Dec·and (decLt from n) (Dec·and (ℕ-discrete (mark ks from) 3) (dec-path (next n vs from) l to)))
 
   -- a list to n is the one that is followed
-  pub followed : (from : ℕ) (l : List ℕ) (k : ℕ) → Path n ks vs from l n → length l ≤ k → follow n vs k from ≡ l
+  pub followed : (from : ℕ) (l : List ℕ) (k : ℕ) → FreePath n ks vs from l n → length l ≤ k → listFrom n vs k from ≡ l
   followed from [] zero c h = refl
   followed from [] (suc k) c h = rw (eq-eqb from n c)
   followed from (x ∷ l) zero c h = absurd (omega arith)
@@ -191,11 +186,11 @@ module _ (n : ℕ) (ks : List ℕ) (vs : List ℤ) where
       let b = c .1 .0 in
       rw (ne-eqb from n (omega arith), c .0, followed (next n vs from) l k (c .1 .1 .1) (omega arith))
 
-  counted : (from : ℕ) (l : List ℕ) → Path n ks vs from l n → total l n ≡ length l
+  counted : (from : ℕ) (l : List ℕ) → FreePath n ks vs from l n → total l n ≡ length l
   counted from [] c = total-none n
   counted from (x ∷ l) c = let e = counted (next n vs from) l (c .1 .1 .1) in let h = c .1 .0 in let o = c .0 in total-more x l n (omega arith) ∙ ap suc e
 
-  only-free : (from : ℕ) (l : List ℕ) (b : ℕ) → Path n ks vs from l n → (mark ks b ≡ 3 → ⊥) → times b l ≡ 0
+  only-free : (from : ℕ) (l : List ℕ) (b : ℕ) → FreePath n ks vs from l n → (mark ks b ≡ 3 → ⊥) → times b l ≡ 0
   only-free from [] b c d = refl
   only-free from (x ∷ l) b c d =
       let e = only-free (next n vs from) l b (c .1 .1 .1) d in
@@ -211,10 +206,10 @@ module _ (n : ℕ) (ks : List ℕ) (vs : List ℤ) where
 
     abbrev dec-frees : Dec (FreeList n ks vs first)
     dec-frees =
-        map-dec (λ p. record { list = follow n vs n first; path = p .0; once = p .1 })
+        map-dec (λ p. record { list = listFrom n vs n first; path = p .0; once = p .1 })
         (λ F. let e = followed first (F .list) n (F .path) (short F) in (rw e (F .path), rw e (F .once)))
-        (Dec·and (dec-path first (follow n vs n first) n)
-        (dec-all n (λ b. mark ks b ≡ 3 → times b (follow n vs n first) ≡ 1) (λ b. dec-imp (ℕ-discrete (mark ks b) 3) (ℕ-discrete (times b (follow n vs n first)) 1))))
+        (Dec·and (dec-path first (listFrom n vs n first) n)
+        (dec-all n (λ b. mark ks b ≡ 3 → times b (listFrom n vs n first) ≡ 1) (λ b. dec-imp (ℕ-discrete (mark ks b) 3) (ℕ-discrete (times b (listFrom n vs n first)) 1))))
 
 -- ---- the whole
 

@@ -2,7 +2,7 @@
 use Prim.Native.Nat.{ℕ, _+_, _*_, _≤_, _<_}
 use mathlib.Core.Path.{_≡_}
 use mathlib.Core.Bool.{Bool, true, false, cond}
-use mathlib.Core.Option.{Option, none, some}
+use mathlib.Core.Option.{none, some}
 use mathlib.Core.List.{List, [], _∷_}
 use lib.ListN.{length, getD, drop, replicate}
 use lib.IntN.{ℤ, pos, negsuc}
@@ -14,7 +14,7 @@ use Rattle.rules.specs.Call.{callsIn, isNought}
 use Rattle.rules.specs.Step.{fresh}
 use Rattle.rules.specs.Rows.{Lent, rowsOf}
 use Rattle.rules.specs.Sound.{Sound, Sized, Live, NotIn, pointersTo, heldAmong, times}
-use Rattle.rules.specs.Refusals.{After, Batched, outcome, leaves, leavesWith, cleared, accepted}
+use Rattle.rules.specs.Refusals.{Batched, outcome, leaves, leavesWith, cleared, accepted}
 use Rattle.rules.specs.Endless.{endless}
 use Rattle.rules.specs.Run.{Heaps, Batch, runOf, AlikeBatches, AlikeRows, AlikeRuns, Said, said, saidIn, but14, AsEndless}
 

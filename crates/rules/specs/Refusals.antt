@@ -9,12 +9,10 @@ use lib.IntN.{ℤ, pos}
 use Rattle.rules.specs.declared.Head.{Head}
 use Rattle.rules.specs.declared.Call.{Call}
 use Rattle.rules.specs.declared.Outcome.{Outcome}
-use Rattle.rules.specs.Head.{Sizes, sizesOf, freshHead, zeroHead}
-use Rattle.rules.specs.Settle.{Heap}
+use Rattle.rules.specs.Head.{sizesOf, freshHead, zeroHead}
 use Rattle.rules.specs.Call.{Answer, callsIn}
-use Rattle.rules.specs.Step.{Result, batch, fresh}
+use Rattle.rules.specs.Step.{batch, fresh}
 use Rattle.rules.specs.Rows.{Lent, rowsOf, headOf, heapOf}
-use Rattle.rules.specs.Sound.{Sound, Sized}
 use Rattle.rules.specs.Decide.{sound?, sized?}
 
 -- the tests: `sized?` and `sound?` decide Sized and Sound by their types

@@ -1,10 +1,10 @@
 -- The lent rows, the rows of a heap, and the relation between rows and a heap that all contracts use. Assumes nothing.
 use Prim.Native.Nat.{ℕ, _+_, _*_, _≤_, _<_}
 use mathlib.Core.Path.{_≡_}
-use mathlib.Core.Option.{Option, none, some}
+use mathlib.Core.Option.{none, some}
 use mathlib.Core.List.{List, [], _∷_, map}
 use lib.ListN.{length, take, getD, replicate}
-use lib.IntN.{ℤ, pos, negsuc}
+use lib.IntN.{ℤ}
 use Rattle.rules.specs.declared.Head.{Head}
 use Rattle.rules.specs.declared.Used.{Used}
 use Rattle.rules.specs.declared.Field.{Field}
@@ -13,7 +13,7 @@ use Rattle.rules.specs.Head.{Sizes}
 use Rattle.rules.specs.Field.{kindOf, valueOf, fieldOf, variableOf, heldOf}
 use Rattle.rules.specs.Table.{Entry, entry, addresses, counts, pad, All, Below, Ascending}
 use Rattle.rules.specs.Rules.{Tables, Transaction, allocates, creates, destroys}
-use Rattle.rules.specs.Settle.{Shape, Heap}
+use Rattle.rules.specs.Settle.{Heap}
 
 -- the rows that are lent, by their names in document 01's table
 pub record Lent : Type 0 where

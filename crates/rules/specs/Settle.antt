@@ -1,6 +1,6 @@
 -- A settle: replay, then reclaim by the smallest address. Assumes nothing.
 use Prim.Native.Nat.{ℕ, zero, suc, _+_, _*_}
-use mathlib.Core.Bool.{Bool, true, false, cond, _||_}
+use mathlib.Core.Bool.{Bool, false, cond, _||_}
 use mathlib.Core.Option.{Option, none, some}
 use mathlib.Core.List.{List, [], _∷_, _++_}
 use lib.Dec.{eqb}
@@ -8,7 +8,7 @@ use lib.ListN.{getD, set}
 use Rattle.rules.specs.declared.Field.{Field}
 use Rattle.rules.specs.declared.Field.the-variants.{Nothing, Figure, Cell, Free}
 use Rattle.rules.specs.Head.{Sizes}
-use Rattle.rules.specs.Rules.{Tables, Transaction, allocates, creates, destroys, leaveZct, replay}
+use Rattle.rules.specs.Rules.{Tables, Transaction, destroys, leaveZct, replay}
 
 -- what can be seen through calls: the fields of the cells, and what the variables hold. The endless heap has nothing else
 pub record Shape : Type 0 where

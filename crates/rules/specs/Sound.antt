@@ -106,9 +106,14 @@ abbrev pub next : ℕ → List ℤ → ℕ → ℕ
 next n vs a = addressOf (n + 1) (getD vs (2 * a) (pos 0))
 
 -- from one address through the free cells of a list to another
-abbrev pub Path : ℕ → List ℕ → List ℤ → ℕ → List ℕ → ℕ → Type 0
-Path n ks vs from [] to = from ≡ to
-Path n ks vs from (x ∷ l) to = (x ≡ from) × ((from < n) × ((mark ks from ≡ 3) × Path n ks vs (next n vs from) l to))
+abbrev pub FreePath : ℕ → List ℕ → List ℤ → ℕ → List ℕ → ℕ → Type 0
+FreePath n ks vs from [] to = from ≡ to
+FreePath n ks vs from (x ∷ l) to = (x ≡ from) × ((from < n) × ((mark ks from ≡ 3) × FreePath n ks vs (next n vs from) l to))
+
+-- the addresses from one on, at most k of them, up to n
+abbrev pub listFrom : ℕ → List ℤ → ℕ → ℕ → List ℕ
+listFrom n vs zero from = []
+listFrom n vs (suc k) from = cond (eqb from n) [] (from ∷ listFrom n vs k (next n vs from))
 
 -- how often b stands in a list
 abbrev pub times : ℕ → List ℕ → ℕ
@@ -118,7 +123,7 @@ times b (x ∷ l) = cond (eqb b x) 1 0 + times b l
 -- from the first free address to n, the free list meets every free cell once
 pub record FreeList (n : ℕ) (ks : List ℕ) (vs : List ℤ) (first : ℕ) : Type 0 where
   pub list : List ℕ
-  pub path : Path n ks vs first list n
+  pub path : FreePath n ks vs first list n
   pub once : (b : ℕ) → b < n → mark ks b ≡ 3 → times b list ≡ 1
 
 -- ---- the whole

@@ -1,7 +1,7 @@
 -- The settle before a call, at most one; 14; a batch and its count; a fresh heap. Assumes nothing.
 use Prim.Native.Nat.{ℕ, zero, suc, _+_, _-_}
 use mathlib.Core.Bool.{Bool, true, false, cond, _||_}
-use mathlib.Core.Option.{Option, none, some}
+use mathlib.Core.Option.{none, some}
 use mathlib.Core.List.{List, [], _∷_, _++_}
 use lib.Dec.{eqb, ltb}
 use lib.IntN.{ℤ, pos}
@@ -11,8 +11,8 @@ use Rattle.rules.specs.declared.Field.the-variants.{Nothing, Figure, Cel
 use Rattle.rules.specs.declared.Call.{Call}
 use Rattle.rules.specs.declared.Call.the-variants.{New, Copy, Clear, Link, Put, Blank, Follow, Read, Same, Settle}
 use Rattle.rules.specs.Head.{Sizes}
-use Rattle.rules.specs.Rules.{Tables, Transaction, allocates}
-use Rattle.rules.specs.Settle.{Shape, Heap, field, store, settled}
+use Rattle.rules.specs.Rules.{allocates}
+use Rattle.rules.specs.Settle.{Heap, field, store, settled}
 use Rattle.rules.specs.Call.{Answer, answer, check, logs, act, value, hold}
 
 -- a heap and the answer that a call gave

@@ -1,19 +1,18 @@
 -- Heaps that cheat, written down: each breaks a named fact of a demand (proofs/Worthless). Assumes nothing.
-use Prim.Native.Nat.{ℕ, suc}
-use mathlib.Core.Bool.{Bool, true, false, cond}
+use Prim.Native.Nat.{suc}
+use mathlib.Core.Bool.{cond}
 use mathlib.Core.Option.{Option, none, some}
-use mathlib.Core.List.{List, [], _∷_, map}
+use mathlib.Core.List.{List, [], _∷_}
 use lib.Dec.{eqb}
-use lib.ListN.{length}
 use lib.IntN.{ℤ, pos}
 use Rattle.rules.specs.declared.Head.{Head}
 use Rattle.rules.specs.declared.Call.{Call}
 use Rattle.rules.specs.Head.{Sizes, sizesOf}
 use Rattle.rules.specs.Settle.{Heap, replayed}
-use Rattle.rules.specs.Call.{Answer, answer, callsIn}
-use Rattle.rules.specs.Step.{Stepped, Result, step}
+use Rattle.rules.specs.Call.{answer, callsIn}
+use Rattle.rules.specs.Step.{Result, step}
 use Rattle.rules.specs.Rows.{Lent, rowsOf, headOf, heapOf}
-use Rattle.rules.specs.Refusals.{After, Batched, outcome, leaves, leavesWith, cleared, answered, freshOf, auditOf, batchOf}
+use Rattle.rules.specs.Refusals.{Batched, outcome, leavesWith, cleared, answered, freshOf, auditOf, batchOf}
 use Rattle.rules.specs.Run.{Heaps}
 
 -- ours with another batch

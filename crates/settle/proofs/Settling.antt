@@ -1,44 +1,25 @@
 -- Laws of a settle on all rows, and how a caller meets and uses its contract. Assumes nothing.
-use mathlib.Core.Path.{_≡_, refl, ap, _∙_}
+use mathlib.Core.Path.{_≡_, ap, _∙_}
 use mathlib.Core.Bool.{Bool, true, false}
-use mathlib.Core.Option.{Option, none, some}
-use mathlib.Core.List.{List, []}
-use Prim.Native.Nat.{ℕ, zero, suc, _+_}
+use mathlib.Core.Option.{Option}
+use mathlib.Core.List.{List}
+use Prim.Native.Nat.{ℕ, _+_}
 use native.Mathlib.Omega.{arith}
 use lib.ListN.{length, replicate, length-replicate}
 use lib.IntN.{ℤ}
 use Rattle.rules.specs.declared.Used.{Used}
 use Rattle.rules.specs.Head.{Sizes}
 use Rattle.rules.specs.Rules.{replay}
-use Rattle.rules.specs.Settle.{Heap, pick, freeCell, reclaim, replayed, settledBy, settled}
+use Rattle.rules.specs.Settle.{Heap, reclaim, replayed, settledBy, settled}
 use Rattle.rules.specs.Step.{settledIf}
 use Rattle.rules.specs.Rows.{Ready, Rows, Whole}
+use Rattle.rules.proofs.Step.{settledBy-log, settledBy-variables}
 use Rattle.cells.specs.Marks.{Marks}
 use Rattle.cells.proofs.Logging.{logged-none}
 use Rattle.settle.specs.declared.Reclaimed.{Reclaimed}
 use Rattle.settle.specs.declared.Room.{Room}
 use Rattle.settle.specs.Reclaiming.{Reclaimable, Done}
 use Rattle.settle.specs.Settling.{Settleable, Settled, RoomMade}
-
--- ---- what reclaiming keeps
-
-keeps : {A : Type 0} (f : Heap → A) (cap : ℕ) (hs : List (Option ℕ)) → ((a : ℕ) (h : Heap) → f (freeCell cap a h) ≡ f h) → (k : ℕ) (h : Heap) → f (reclaim cap hs k h) ≡ f h
-unfolding reclaim
-keeps f cap hs e zero h = refl
-keeps f cap hs e (suc k) h = go (λ a. keeps f cap hs e k (freeCell cap a h) ∙ e a h) (pick hs (h .tables .zct)) refl
-  where
-    go : ((a : ℕ) → f (reclaim cap hs k (freeCell cap a h)) ≡ f h) → (o : Option ℕ) → pick hs (h .tables .zct) ≡ o → f (reclaim cap hs (suc k) h) ≡ f h
-    go ih none q = rw q
-    go ih (some a) q = rw q (ih a)
-
-module _ (s : Sizes) (hs : List (Option ℕ)) (h : Heap) where
-  pub settled-variables : settledBy s hs h .shape .variables ≡ h .shape .variables
-  unfolding settledBy replayed freeCell
-  settled-variables = keeps (λ (x : Heap). x .shape .variables) (s .cap) hs (λ a x. refl) (s .n) (replayed (s .cap) h)
-
-  pub settled-log : settledBy s hs h .log ≡ []
-  unfolding settledBy replayed freeCell
-  settled-log = keeps (λ (x : Heap). x .log) (s .cap) hs (λ a x. refl) (s .n) (replayed (s .cap) h)
 
 -- ---- a settle
 
@@ -65,8 +46,8 @@ unfolding settledBy replayed
 settled-as {n} {cap} {log′ = log′} {work′ = work′} s hs h l m en ec em W D el ew =
     let e : settledBy s hs h ≡ reclaim cap hs m (replayed cap h) = rw (en, ec, em) in
     let w : work′ ≡ replicate n 0 = rw em at ew in
-    let v = settled-variables s hs h in
-    let g = settled-log s hs h in
+    let v = settledBy-variables s hs h in
+    let g = settledBy-log s hs h in
     record {
       whole =
           record {

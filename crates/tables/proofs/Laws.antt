@@ -10,7 +10,7 @@ use lib.ListN.{length, take, drop, getD, set, replicate, length-append, List·ge
 use lib.Seq.{getD-take, length-take-le, drop-at, getD-at, drop-length, take-all, take-take, drop-cons}
 use lib.Dec.{ltb}
 use borrow.Author.Tests.{lt-ltb, le-ltb}
-use Rattle.rules.specs.Table.{has, pad, Above, Ascending}
+use Rattle.rules.specs.Table.{pad, Above, Ascending}
 use Rattle.tables.specs.Row.{place, put, cut, Padded}
 
 -- where a stands in an ascending list

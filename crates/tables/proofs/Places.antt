@@ -9,8 +9,9 @@ use lib.ListN.{length, take, getD, set}
 use lib.Seq.{length-take-le, getD-take}
 use lib.Dec.{ltb, eqb}
 use borrow.Author.Tests.{lt-ltb, le-ltb, ltb-true, ltb-false, eqb-true, eqb-false, ne-eqb, eq-eqb}
-use Rattle.rules.specs.Table.{Entry, entry, has, insert, remove, enter, delete, countIn, addresses, counts, Above, Below, Ascending}
+use Rattle.rules.specs.Table.{Entry, has, insert, remove, enter, delete, countIn, addresses, counts, Above, Below, Ascending}
 use Rattle.rules.proofs.Sorted.{enter-addresses as entered, delete-addresses as deleted}
+use Rattle.rules.proofs.Roundtrip.{beside}
 use Rattle.tables.specs.Row.{place, put, cut}
 use Rattle.tables.proofs.Laws.{above-at}
 
@@ -205,12 +206,6 @@ put-counts a k (x ∷ m) h = go (versus a (x .address)) (put-counts a k m)
     go (more l t e g) ih = rw (e, g, t)
 
 -- ---- room: an ascending list of addresses below n that lacks one of them is shorter than n
-
-beside : (n x : ℕ) (z : List ℕ) → x < n → Above x z → Ascending z → Below n z → suc x + length z ≤ n
-beside n x [] l s t b = omega arith
-beside n x (y ∷ z) l s t b =
-    let h = s .0 in
-    omega (arith, beside n y z (b .0) (t .0) (t .1) (b .1))
 
 -- of a list above x, that lacks an a above x
 beside-room : (n x a : ℕ) (z : List ℕ) → x < a → a < n → Above x z → Ascending z → Below n z → has a z ≡ false → suc x + length z < n

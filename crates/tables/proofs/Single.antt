@@ -5,10 +5,11 @@ use mathlib.Core.List.{List, [], _∷_}
 use Prim.Native.Nat.{ℕ, zero, suc, _+_, _-_, _≤_, _<_}
 use native.Mathlib.Nat.{le-of-suc-le-suc, not-suc-le-zero}
 use native.Mathlib.Omega.{arith}
-use lib.ListN.{length, take, getD, set, replicate, length-append, length-set, length-replicate}
+use lib.ListN.{length, take, getD, set, replicate, length-append, length-set}
 use lib.Seq.{length-take-le, take-at, set-append-left}
 use Rattle.rules.specs.Table.{has, insert, remove, pad, All, Below, Ascending}
 use Rattle.rules.specs.Rows.{Is}
+use Rattle.rules.proofs.Roundtrip.{length-pad}
 use Rattle.tables.specs.Row.{place, put, cut, Padded, Listed}
 use Rattle.tables.proofs.Laws.{length-put, length-cut, place-used}
 use Rattle.tables.proofs.Places.{has-used, insert-there, insert-put, remove-cut, room}
@@ -18,9 +19,6 @@ pub all-at : (P : ℕ → Type 0) (z : List ℕ) (i : ℕ) → All P z → i < l
 all-at P [] i s h = absurd (not-suc-le-zero h)
 all-at P (x ∷ z) zero s h = s .0
 all-at P (x ∷ z) (suc i) s h = all-at P z i (s .1) (le-of-suc-le-suc h)
-
-pub length-pad : (n : ℕ) (z : List ℕ) → length z ≤ n → length (pad n z) ≡ n
-length-pad n z h = omega (arith, length-append z (replicate (n - length z) 0), length-replicate {A = ℕ} (n - length z) 0)
 
 pub is-pad : (n used : ℕ) (row z : List ℕ) → length z ≤ n → used ≡ length z → row ≡ pad n z → Is n row used z
 is-pad n used row z h l e = record { long = ap length e ∙ length-pad n z h; count = l; padded = e }

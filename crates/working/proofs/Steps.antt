@@ -20,6 +20,7 @@ use Rattle.calls.specs.Seen.{needs}
 use Rattle.calls.specs.Doing.{acted}
 use Rattle.rules.specs.declared.Used.{Used}
 use Rattle.rules.specs.Rows.{Whole}
+use Rattle.rules.proofs.Tests.{not-first}
 use Rattle.rules.proofs.Invariant.{Inv}
 use Rattle.rules.proofs.Fine.{Fine}
 use Rattle.rules.proofs.Calls.{Fits, logs-long}
@@ -173,12 +174,8 @@ needs-two Settle sh = logs-long Settle sh
 wants-room : (s : Sizes) (h : Heap) (c : Call) → wants s c h ≡ false → full s (needs c (h .shape)) h ≡ false
 wants-room s h c e = go c (sym (wants-as s h c) ∙ e)
   where
-    either : (p q : Bool) → (p || q) ≡ false → p ≡ false
-    either true q e = e
-    either false q e = refl
-
     go : (d : Call) → answers d (full s (needs c (h .shape)) h) (noneFree s h) ≡ false → full s (needs c (h .shape)) h ≡ false
-    go (New v) e = either _ _ e
+    go (New v) e = not-first _ _ e
     go (Copy v w) e = e
     go (Clear v) e = e
     go (Link v f w) e = e

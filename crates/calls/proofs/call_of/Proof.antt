@@ -1,14 +1,12 @@
 use Rattle.rules.specs.Call.{isNought, number}
 use mir.Facts.{toZ-ofZ}
 use Rattle.calls.proofs.Words.{same, same-three, figure-right, ap-two, ap-three}
-use mathlib.Core.Path.{_∙_, ap, refl}
-use mathlib.Core.Bool.{Bool, _&&_}
-use lib.IntN.{ℤ}
+use mathlib.Core.Path.{ap, refl}
 use Rattle.rules.specs.Call.{callOf, isBelow}
 use Rattle.rules.specs.declared.Call.the-variants.{New, Copy, Clear, Link, Put, Blank, Follow, Read, Same}
-use Rattle.calls.proofs.Words.{op-is, no-call, any-figure, given-are, all-are}
+use Rattle.calls.proofs.Words.{op-is, no-call, given-are}
 use Rattle.rules.specs.Call.{callOf}
-use Rattle.calls.proofs.Words.{op-is, no-call, any-figure}
+use Rattle.calls.proofs.Words.{op-is, no-call}
 use borrow.Author.Needs.{needs}
 use Rattle.calls.proofs.call_of.Statement.{statement}
 use Rattle.calls.proofs.call_of.Tie as tie

@@ -1,9 +1,9 @@
 use borrow.Author.Needs.{needs}
 use native.Mathlib.Omega.{arith}
-use Prim.Native.Nat.{_-_, _≤_}
+use Prim.Native.Nat.{_-_}
 use mathlib.Core.Path.{refl, sym, ap, _∙_}
 use lib.ListN.{length}
-use Rattle.calls.specs.Words.{isSome, callAt}
+use Rattle.calls.specs.Words.{isSome}
 use Rattle.calls.proofs.Listing.{Passed, passed-none, passed-more, passed-all, too-many, stops-short, stops-bad, says-no, says-yes}
 use Rattle.calls.proofs.calls_right.Statement.{statement}
 use Rattle.calls.proofs.calls_right.Tie as tie

@@ -1,4 +1,3 @@
-use mathlib.Core.Path.{refl}
 use Rattle.rules.specs.Call.{check, var}
 use Rattle.calls.proofs.Seeing.{reach}
 use borrow.Author.Needs.{needs}

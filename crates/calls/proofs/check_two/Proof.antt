@@ -1,4 +1,4 @@
-use mathlib.Core.Path.{_∙_, ap}
+use mathlib.Core.Path.{_∙_}
 use Rattle.rules.specs.Call.{orElse}
 use Rattle.calls.proofs.Words.{ap-two}
 use Rattle.calls.proofs.Seeing.{both-11}

@@ -1,5 +1,4 @@
 use native.Mathlib.Omega.{arith}
-use mathlib.Core.Path.{refl}
 use Rattle.rules.specs.Settle.{drops}
 use borrow.Author.Needs.{needs}
 use Rattle.calls.proofs.drop_count.Statement.{statement}

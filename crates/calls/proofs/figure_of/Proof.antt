@@ -1,6 +1,4 @@
-use mathlib.Core.Path.{_∙_}
 use Rattle.rules.specs.Call.{figureOf}
-use Rattle.cells.proofs.Signed.{back}
 use borrow.Author.Needs.{needs}
 use Rattle.calls.proofs.figure_of.Statement.{statement}
 use Rattle.calls.proofs.figure_of.Tie as tie

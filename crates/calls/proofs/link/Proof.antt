@@ -1,4 +1,3 @@
-use native.Mathlib.Omega.{arith}
 use Rattle.calls.proofs.Acting.{linked}
 use Rattle.calls.proofs.Arms.{link-near, link-writable, link-room}
 use borrow.Author.Needs.{needs}

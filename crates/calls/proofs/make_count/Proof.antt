@@ -1,4 +1,3 @@
-use mathlib.Core.Path.{refl, sym, _∙_}
 use native.Mathlib.Omega.{arith}
 use Rattle.calls.proofs.Seeing.{made}
 use borrow.Author.Needs.{needs}

@@ -1,9 +1,9 @@
-use mathlib.Core.Path.{_≡_, _∙_, ap}
+use mathlib.Core.Path.{_∙_, ap}
 use native.Mathlib.Omega.{arith}
 use lib.ListN.{length, length-append}
 use Rattle.rules.specs.declared.Field.{Field}
 use Rattle.rules.specs.Settle.{drops}
-use Rattle.rules.specs.Call.{var, at, makes}
+use Rattle.rules.specs.Call.{var}
 use borrow.Author.Needs.{needs}
 use Rattle.calls.proofs.need_link.Statement.{statement}
 use Rattle.calls.proofs.need_link.Tie as tie

@@ -1,5 +1,4 @@
 use mathlib.Core.Path.{refl}
-use native.Mathlib.Omega.{arith}
 use Rattle.calls.proofs.Acting.{none-free, took}
 use borrow.Author.Needs.{needs}
 use Rattle.calls.proofs.take.Statement.{statement}

@@ -1,8 +1,6 @@
-use native.Mathlib.Omega.{arith}
 use borrow.Author.Tests.{lt-ltb}
 use Rattle.calls.proofs.Acting.{no-address}
 use Rattle.rules.specs.Call.{target}
-use Rattle.rules.specs.Rows.{Inside}
 use borrow.Author.Needs.{needs}
 use Rattle.calls.proofs.target_or.Statement.{statement}
 use Rattle.calls.proofs.target_or.Tie as tie
