@@ -16,28 +16,27 @@ use Rattle.rules.proofs.Positions.{holds-held}
 use Rattle.rules.proofs.Roundtrip.{variables-again}
 use Rattle.rules.proofs.Demand1.{audit-0, audit-4}
 use Rattle.cells.specs.Marks.{Marks}
-use Rattle.checks.specs.Counts.{Counted, Agree, AllHeld, Within}
+use Rattle.checks.specs.Counts.{Counted, AgreeWith, Agree, AllHeld, Within}
 use Rattle.audit.specs.Parts.{PointersSound, HeldSound, RowsSound, WorkSound, WorkReady, Named}
+
+-- two counts that are the same of every cell
+agree-as : (count count′ : ℕ → ℕ) (n : ℕ) (ks zs : List ℕ) (zct : ℕ) (ms cs : List ℕ) (mrt cap : ℕ) → TableRow n ks zs zct → TableRow n ks ms mrt
+    → ((a : ℕ) → a < n → count a ≡ count′ a) → AgreeWith count n ks zs zct ms cs mrt cap → AgreeWith count′ n ks zs zct ms cs mrt cap
+agree-as count count′ n ks zs zct ms cs mrt cap Z M e A =
+    record {
+      apart = A .apart;
+      one = λ a l o m. sym (e a (l .cell)) ∙ A .one a l o m;
+      none = λ j h. sym (e (getD zs j 0) (Z .live j h .cell)) ∙ A .none j h;
+      exact = λ j h k. sym (e (getD ms j 0) (M .live j h .cell)) ∙ A .exact j h k;
+    }
 
 module _ (n : ℕ) (ks : List ℕ) (vs : List ℤ) (zs : List ℕ) (zct : ℕ) (ms cs : List ℕ) (mrt cap : ℕ) (work : List ℕ)
     (Z : TableRow n ks zs zct) (M : TableRow n ks ms mrt) (c : Counted n ks vs (2 * n) work) where
   pub agree-pointers : Agree n ks zs zct ms cs mrt cap work → PointersSound n ks vs zs zct ms cs mrt cap
-  agree-pointers A =
-      record {
-        apart = A .apart;
-        one = λ a l o m. sym (c .each a (l .cell)) ∙ A .one a l o m;
-        none = λ j h. sym (c .each (getD zs j 0) (Z .live j h .cell)) ∙ A .none j h;
-        exact = λ j h k. sym (c .each (getD ms j 0) (M .live j h .cell)) ∙ A .exact j h k;
-      }
+  agree-pointers = agree-as _ _ n ks zs zct ms cs mrt cap Z M (c .each)
 
   pub pointers-agree : PointersSound n ks vs zs zct ms cs mrt cap → Agree n ks zs zct ms cs mrt cap work
-  pointers-agree A =
-      record {
-        apart = A .apart;
-        one = λ a l o m. c .each a (l .cell) ∙ A .one a l o m;
-        none = λ j h. c .each (getD zs j 0) (Z .live j h .cell) ∙ A .none j h;
-        exact = λ j h k. c .each (getD ms j 0) (M .live j h .cell) ∙ A .exact j h k;
-      }
+  pointers-agree = agree-as _ _ n ks zs zct ms cs mrt cap Z M (λ a h. sym (c .each a h))
 
 module _ (n : ℕ) (xs : List ℤ) (zs : List ℕ) (zct : ℕ) (work : List ℕ) (W : Within zs zct n) (N : Named xs) (M : Marks n work (map heldOf xs)) where
   marked-at : (b : ℕ) → b < n → getD work b 0 ≡ cond (heldAmong n xs b (length xs)) 1 0

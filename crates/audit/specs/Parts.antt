@@ -7,9 +7,9 @@ use lib.ListN.{length, getD}
 use lib.IntN.{ℤ}
 use Rattle.rules.specs.declared.Head.{Head}
 use Rattle.rules.specs.Field.{variableOf, heldOf}
-use Rattle.rules.specs.Sound.{Live, Words, Variables, TableRow, ZeroFrom, NotIn, Ranged, pointers, heldAmong, FreeList}
+use Rattle.rules.specs.Sound.{Words, Variables, TableRow, ZeroFrom, Ranged, pointers, heldAmong, FreeList}
 use Rattle.checks.specs.CellRows.{CellRows}
-use Rattle.checks.specs.Counts.{TablesReady}
+use Rattle.checks.specs.Counts.{AgreeWith, TablesReady}
 
 pub record CellsSound (n : ℕ) (ks : List ℕ) (vs xs : List ℤ) : Type 0 where
   pub words : Words n ks vs
@@ -28,12 +28,9 @@ pub record TablesSound (n : ℕ) (ks zs : List ℕ) (zct : ℕ) (ms cs : List �
   pub mrt-sound : TableSound n ks ms mrt
   pub counts-sound : CountsSound cs mrt cap
 
--- the tables agree with the pointers
-pub record PointersSound (n : ℕ) (ks : List ℕ) (vs : List ℤ) (zs : List ℕ) (zct : ℕ) (ms cs : List ℕ) (mrt cap : ℕ) : Type 0 where
-  pub apart : (i j : ℕ) → i < zct → j < mrt → getD zs i 0 ≡ getD ms j 0 → ⊥
-  pub one : (a : ℕ) → Live n ks a → NotIn zs zct a → NotIn ms mrt a → pointers n ks vs a (2 * n) ≡ 1
-  pub none : (j : ℕ) → j < zct → pointers n ks vs (getD zs j 0) (2 * n) ≡ 0
-  pub exact : (j : ℕ) → j < mrt → getD cs j 0 < cap → pointers n ks vs (getD ms j 0) (2 * n) ≡ getD cs j 0
+-- the tables agree with the pointers that there are
+abbrev pub PointersSound : ℕ → List ℕ → List ℤ → List ℕ → ℕ → List ℕ → List ℕ → ℕ → ℕ → Type 0
+PointersSound n ks vs zs zct ms cs mrt cap = AgreeWith (λ a. pointers n ks vs a (2 * n)) n ks zs zct ms cs mrt cap
 
 -- some variable holds each ZCT cell
 abbrev pub HeldSound : ℕ → List ℤ → List ℕ → ℕ → Type 0

@@ -10,7 +10,7 @@ use lib.ListN.{getD}
 use borrow.Author.Tests.{eqb-true, eqb-false, ltb-true, ltb-false}
 use borrow.Author.Count.{below-more}
 use Rattle.rules.specs.Sound.{mark, Live, TableRow, At, NotIn}
-use Rattle.checks.specs.Counts.{Agree}
+use Rattle.checks.specs.Counts.{AgreeWith, Agree}
 
 -- the entries before z are below a, and the others are not
 pub record Place (row : List ℕ) (used a z : ℕ) : Type 0 where
@@ -158,12 +158,13 @@ module _ (n : ℕ) (ks zs : List ℕ) (zct : ℕ) (ms cs : List ℕ) (mrt cap : 
     pub lonely : a < n → (At zs zct z a → ⊥) → (At ms mrt q a → ⊥) → (((mark ks a ≡ 3 → ⊥) → getD work a 0 ≡ 1) → ⊥) → Agree n ks zs zct ms cs mrt cap work → ⊥
     lonely h d i k A = k (λ u. A .one a (record { cell = h; used = u }) (out n ks zs zct Z a z (g .zplace) d) (out n ks ms mrt M a q (g .qplace) i))
 
-  module _ (a z q : ℕ) (A : Agree n ks zs zct ms cs mrt cap work) where
-    pub both : At zs zct z a → At ms mrt q a → ⊥
-    both i j = A .apart z q (i .0) (j .0) (i .1 ∙ sym (j .1))
+-- tables that agree, at an address where both, or the count, say otherwise
+module _ {count : ℕ → ℕ} {n : ℕ} {ks zs : List ℕ} {zct : ℕ} {ms cs : List ℕ} {mrt cap a : ℕ} (z q : ℕ) (A : AgreeWith count n ks zs zct ms cs mrt cap) where
+  pub both : At zs zct z a → At ms mrt q a → ⊥
+  both i j = A .apart z q (i .0) (j .0) (i .1 ∙ sym (j .1))
 
-    pub busy : At zs zct z a → (getD work a 0 ≡ 0 → ⊥) → ⊥
-    busy i d = d (rw (i .1) at (A .none z (i .0)))
+  pub busy : At zs zct z a → (count a ≡ 0 → ⊥) → ⊥
+  busy i d = d (rw (i .1) at (A .none z (i .0)))
 
-    pub wrong : At ms mrt q a → ((getD cs q 0 < cap → getD work a 0 ≡ getD cs q 0) → ⊥) → ⊥
-    wrong j d = d (rw (j .1) at (A .exact q (j .0)))
+  pub wrong : At ms mrt q a → ((getD cs q 0 < cap → count a ≡ getD cs q 0) → ⊥) → ⊥
+  wrong j d = d (rw (j .1) at (A .exact q (j .0)))

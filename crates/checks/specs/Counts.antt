@@ -11,16 +11,20 @@ pub record Counted (n : ℕ) (ks : List ℕ) (vs : List ℤ) (i : ℕ) (work : L
   pub long : length work ≡ n
   pub each : (b : ℕ) → b < n → getD work b 0 ≡ pointers n ks vs b i
 
--- the tables agree with the number of pointers that the work row has for each cell
-pub record Agree (n : ℕ) (ks zs : List ℕ) (zct : ℕ) (ms cs : List ℕ) (mrt cap : ℕ) (work : List ℕ) : Type 0 where
+-- the tables agree with a count of each cell's pointers
+pub record AgreeWith (count : ℕ → ℕ) (n : ℕ) (ks zs : List ℕ) (zct : ℕ) (ms cs : List ℕ) (mrt cap : ℕ) : Type 0 where
   -- ZCT and MRT share no cell
   pub apart : (i j : ℕ) → i < zct → j < mrt → getD zs i 0 ≡ getD ms j 0 → ⊥
   -- a cell that isn't free and is in neither has one pointer
-  pub one : (a : ℕ) → Live n ks a → NotIn zs zct a → NotIn ms mrt a → getD work a 0 ≡ 1
+  pub one : (a : ℕ) → Live n ks a → NotIn zs zct a → NotIn ms mrt a → count a ≡ 1
   -- a ZCT cell has none
-  pub none : (j : ℕ) → j < zct → getD work (getD zs j 0) 0 ≡ 0
+  pub none : (j : ℕ) → j < zct → count (getD zs j 0) ≡ 0
   -- an MRT count below the cap is exact
-  pub exact : (j : ℕ) → j < mrt → getD cs j 0 < cap → getD work (getD ms j 0) 0 ≡ getD cs j 0
+  pub exact : (j : ℕ) → j < mrt → getD cs j 0 < cap → count (getD ms j 0) ≡ getD cs j 0
+
+-- with the count that the work row has
+abbrev pub Agree : ℕ → List ℕ → List ℕ → ℕ → List ℕ → List ℕ → ℕ → ℕ → List ℕ → Type 0
+Agree n ks zs zct ms cs mrt cap work = AgreeWith (λ a. getD work a 0) n ks zs zct ms cs mrt cap
 
 -- what the comparison leans on: the rows are long enough, and the tables ascend and name cells that aren't free
 pub record TablesReady (n : ℕ) (ks zs : List ℕ) (zct : ℕ) (ms cs : List ℕ) (mrt : ℕ) : Type 0 where

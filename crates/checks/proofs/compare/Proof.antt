@@ -32,7 +32,7 @@ stands-requires-2 c κs = search needs
 returns : tie.Need-returns Inv-loop μ-loop
 returns c =
     let z = c .before .before .stands .ensures .yes (c .before .if2 .taken) in
-    isn't (λ A. ⊎-elim (λ w. busy _ _ _ _ _ _ _ _ _ _ _ 0 A z (w .taken)) (λ w. both _ _ _ _ _ _ _ _ _ _ _ _ A z (w .1 .ensures .yes (w .2 .taken))) (c .if3 .came))
+    isn't (λ A. ⊎-elim (λ w. busy _ 0 A z (w .taken)) (λ w. both _ _ A z (w .1 .ensures .yes (w .2 .taken))) (c .if3 .came))
 
 add-z : tie.Need-add-z Inv-loop μ-loop
 add-z c = omega arith
@@ -61,7 +61,7 @@ exact-requires : tie.Need-exact-requires Inv-loop μ-loop
 exact-requires c κs = search needs
 
 returns-2 : tie.Need-returns-2 Inv-loop μ-loop
-returns-2 c = isn't (λ A. wrong _ _ _ _ _ _ _ _ _ _ 0 _ A (c .before .before .before .before .stands3 .ensures .yes (c .before .before .before .if5 .taken)) (c .before .exact .ensures .no (not-true _ (c .if6 .taken))))
+returns-2 c = isn't (λ A. wrong 0 _ A (c .before .before .before .before .stands3 .ensures .yes (c .before .before .before .if5 .taken)) (c .before .exact .ensures .no (not-true _ (c .if6 .taken))))
 
 add-q : tie.Need-add-q Inv-loop μ-loop
 add-q c = omega arith
