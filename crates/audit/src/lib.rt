@@ -24,7 +24,7 @@ use rules::Head;
 use rules::Outcome;
 
 // Are fields and variables as they are to be?
-pub fn cells_sound(kinds: &[u8], values: &[i32], variables: &[i32], n: usize) -> bool
+fn cells_sound(kinds: &[u8], values: &[i32], variables: &[i32], n: usize) -> bool
     requires { ⌜ CellRows n (now kinds) (now values) ⌝ }
     ensures { λ r. ⌜ Says r (CellsSound n (now (kinds .entry)) (now (values .entry)) (now (variables .entry))) ⌝ }
 {
@@ -38,7 +38,7 @@ pub fn cells_sound(kinds: &[u8], values: &[i32], variables: &[i32], n: usize) ->
 }
 
 // Is a row of addresses as it is to be?
-pub fn table_sound(kinds: &[u8], n: usize, row: &[u32], used: usize) -> bool
+fn table_sound(kinds: &[u8], n: usize, row: &[u32], used: usize) -> bool
     requires { ⌜ (length (now kinds) ≡ 2 * n) × ((n ≤ 1024) × (used ≤ length (now row))) ⌝ }
     ensures { λ r. ⌜ Says r (TableSound n (now (kinds .entry)) (now (row .entry)) used) ⌝ }
 {
@@ -52,7 +52,7 @@ pub fn table_sound(kinds: &[u8], n: usize, row: &[u32], used: usize) -> bool
 }
 
 // Is the row of counts as it is to be?
-pub fn counts_sound(counts: &[u32], used: usize, cap: usize) -> bool
+fn counts_sound(counts: &[u32], used: usize, cap: usize) -> bool
     requires { ⌜ used ≤ length (now counts) ⌝ }
     ensures { λ r. ⌜ Says r (CountsSound (now (counts .entry)) used cap) ⌝ }
 {
@@ -66,7 +66,7 @@ pub fn counts_sound(counts: &[u32], used: usize, cap: usize) -> bool
 }
 
 // Are the tables' rows as they are to be?
-pub fn tables_sound(
+fn tables_sound(
     kinds: &[u8],
     n: usize,
     zct: &[u32],
@@ -93,7 +93,7 @@ pub fn tables_sound(
 }
 
 // Do the tables agree with the pointers?
-pub fn pointers_sound(
+fn pointers_sound(
     head: Head,
     kinds: &[u8],
     values: &[i32],
@@ -112,7 +112,7 @@ pub fn pointers_sound(
 }
 
 // Does some variable hold each of the used entries?
-pub fn held_sound(variables: &[i32], n: usize, zct: &[u32], zused: usize, work: &mut [u32]) -> bool
+fn held_sound(variables: &[i32], n: usize, zct: &[u32], zused: usize, work: &mut [u32]) -> bool
     requires { ⌜ (zused ≤ length (now zct)) × (length (now work) ≡ n) ⌝ }
     requires { ⌜ Within (now zct) zused n ⌝ }
     requires { ⌜ Named (now variables) ⌝ }
@@ -123,7 +123,7 @@ pub fn held_sound(variables: &[i32], n: usize, zct: &[u32], zused: usize, work: 
 }
 
 // Does the free list meet every free cell once?
-pub fn frees_sound(kinds: &[u8], values: &[i32], n: usize, first: usize, work: &mut [u32]) -> bool
+fn frees_sound(kinds: &[u8], values: &[i32], n: usize, first: usize, work: &mut [u32]) -> bool
     requires { ⌜ CellRows n (now kinds) (now values) ⌝ }
     requires { ⌜ length (now work) ≡ n ⌝ }
     ensures { λ r. ⌜ Says r (FreeList n (now (kinds .entry)) (now (values .entry)) first) ⌝ }
@@ -136,7 +136,7 @@ pub fn frees_sound(kinds: &[u8], values: &[i32], n: usize, first: usize, work: &
 }
 
 // Is all that shows without the work row as it is to be?
-pub fn rows_sound(
+fn rows_sound(
     head: Head,
     kinds: &[u8],
     values: &[i32],
@@ -167,7 +167,7 @@ pub fn rows_sound(
 }
 
 // And what shows through the work row?
-pub fn work_sound(
+fn work_sound(
     head: Head,
     kinds: &[u8],
     values: &[i32],
@@ -194,7 +194,7 @@ pub fn work_sound(
 }
 
 // Is every part of the heap sound?
-pub fn parts_sound(
+fn parts_sound(
     head: Head,
     kinds: &[u8],
     values: &[i32],

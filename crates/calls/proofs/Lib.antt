@@ -1,6 +1,4 @@
 -- the laws that belong to no one function
-pub mod Words
-pub mod Listing
 pub mod Seeing
 pub mod Acting
 pub mod Arms

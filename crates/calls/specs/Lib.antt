@@ -1,4 +1,3 @@
 -- the definitions that calls' contracts cite
-pub mod Words
 pub mod Seen
 pub mod Doing

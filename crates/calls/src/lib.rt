@@ -1,4 +1,4 @@
-// The ten calls on rows, without the settle before them: a call from its words, what refuses it, what it needs, what it does.
+// The ten calls on rows, without the settle before them: what refuses a call, what it needs, what it does.
 ghost use mathlib.Core.Path.{_≡_};
 ghost use mathlib.Core.Bool.{Bool, true, _&&_, cond};
 ghost use mathlib.Core.List.{List, _++_};
@@ -10,15 +10,13 @@ ghost use Rattle.rules.specs.declared.Used.{Used};
 ghost use Rattle.rules.specs.Head.{Sizes};
 ghost use Rattle.rules.specs.Rules.{Transaction};
 ghost use Rattle.rules.specs.Settle.{Shape, Heap, drops};
-ghost use Rattle.rules.specs.Call.{callOf, given, isBelow, isNought, var, at, isHeld, isCell, isFigure, want, orElse, check, makes, write, toCell, target, figureOf, sameCell};
+ghost use Rattle.rules.specs.Call.{var, at, isHeld, isCell, isFigure, want, orElse, check, makes, write, toCell, target, figureOf, sameCell};
 ghost use Rattle.rules.specs.Step.{doNew};
 ghost use Rattle.rules.specs.Rows.{Inside, Logged, Whole};
 ghost use Rattle.cells.specs.Leaves.{heldAs};
-ghost use Rattle.calls.specs.Words.{decodedAs, isSome, callAt, Decides};
 ghost use Rattle.calls.specs.Seen.{Held, Shown, Reach, Reaches, needs};
 ghost use Rattle.calls.specs.Doing.{acted, Did, Plain, Wrote, Writable, Linkable, Takeable, Able};
 use cells::add_entry;
-use cells::address;
 use cells::field_at;
 use cells::held;
 use cells::hold;
@@ -28,172 +26,10 @@ use cells::take_free;
 use rules::Call;
 use rules::Field;
 
-// What four words are: a call, or none.
-pub enum Decoded {
-    Is(Call),
-    Bad,
-}
-
-// Is the word a variable of m, or a field of 2?
-pub fn is_below(x: i32, m: usize) -> bool
-    ensures { λ r. ⌜ r ≡ isBelow m x ⌝ }
-{
-    if x < 0 {
-        return false;
-    }
-    (x as usize) < m
-}
-
-// Is the word 0, as one that a call does not name?
-pub fn is_nought(x: i32) -> bool
-    ensures { λ r. ⌜ r ≡ isNought x ⌝ }
-{
-    is_below(x, 1)
-}
-
-// Are all three words right?
-pub fn all(p: bool, q: bool, r: bool) -> bool
-    ensures { λ s. ⌜ s ≡ (p && q && r) ⌝ }
-{
-    if p {
-        if q {
-            return r;
-        }
-        return false;
-    }
-    false
-}
-
-// The call, where its words are right.
-pub fn given(right: bool, call: Call) -> Decoded
-    ensures { λ r. ⌜ decodedAs r ≡ given right call ⌝ }
-{
-    if right {
-        Decoded::Is(call)
-    } else {
-        Decoded::Bad
-    }
-}
-
-// A variable and two unused words.
-pub fn one_variable(a: i32, b: i32, c: i32, m: usize) -> bool
-    ensures { λ r. ⌜ r ≡ (isBelow m a && isNought b && isNought c) ⌝ }
-{
-    all(is_below(a, m), is_nought(b), is_nought(c))
-}
-
-// Two variables and an unused word.
-pub fn two_variables(a: i32, b: i32, c: i32, m: usize) -> bool
-    ensures { λ r. ⌜ r ≡ (isBelow m a && isBelow m b && isNought c) ⌝ }
-{
-    all(is_below(a, m), is_below(b, m), is_nought(c))
-}
-
-// A variable, a field and a variable.
-pub fn field_and_variable(a: i32, b: i32, c: i32, m: usize) -> bool
-    ensures { λ r. ⌜ r ≡ (isBelow m a && isBelow 2 b && isBelow m c) ⌝ }
-{
-    all(is_below(a, m), is_below(b, 2), is_below(c, m))
-}
-
-// A variable, a field and any figure.
-pub fn field_and_figure(a: i32, b: i32, m: usize) -> bool
-    ensures { λ r. ⌜ r ≡ (isBelow m a && isBelow 2 b && true) ⌝ }
-{
-    all(is_below(a, m), is_below(b, 2), true)
-}
-
-// A variable, a field and an unused word.
-pub fn one_field(a: i32, b: i32, c: i32, m: usize) -> bool
-    ensures { λ r. ⌜ r ≡ (isBelow m a && isBelow 2 b && isNought c) ⌝ }
-{
-    all(is_below(a, m), is_below(b, 2), is_nought(c))
-}
-
-// Three unused words.
-pub fn no_words(a: i32, b: i32, c: i32) -> bool
-    ensures { λ r. ⌜ r ≡ (isNought a && isNought b && isNought c) ⌝ }
-{
-    all(is_nought(a), is_nought(b), is_nought(c))
-}
-
-// The call that four words are, over m variables: the operation number picks it and the words it takes.
-pub fn call_of(op: i32, a: i32, b: i32, c: i32, m: usize) -> Decoded
-    ensures { λ r. ⌜ decodedAs r ≡ callOf m op a b c ⌝ }
-{
-    match op {
-        -2147483648..=0 | 11..=2147483647 => Decoded::Bad,
-        1 => given(one_variable(a, b, c, m), Call::New(address(a))),
-        2 => given(
-            two_variables(a, b, c, m),
-            Call::Copy(address(a), address(b)),
-        ),
-        3 => given(one_variable(a, b, c, m), Call::Clear(address(a))),
-        4 => given(
-            field_and_variable(a, b, c, m),
-            Call::Link(address(a), address(b), address(c)),
-        ),
-        5 => given(
-            field_and_figure(a, b, m),
-            Call::Put(address(a), address(b), c),
-        ),
-        6 => given(one_field(a, b, c, m), Call::Blank(address(a), address(b))),
-        7 => given(
-            field_and_variable(a, b, c, m),
-            Call::Follow(address(a), address(b), address(c)),
-        ),
-        8 => given(one_field(a, b, c, m), Call::Read(address(a), address(b))),
-        9 => given(
-            two_variables(a, b, c, m),
-            Call::Same(address(a), address(b)),
-        ),
-        10 => given(no_words(a, b, c), Call::Settle),
-    }
-}
-
-// The call that the four words from place i on are.
-pub fn call_at(calls: &[i32], i: usize, m: usize) -> Decoded
-    requires { ⌜ i + 4 ≤ length (now calls) ⌝ }
-    ensures { λ r. ⌜ decodedAs r ≡ callAt m (now (calls .entry)) i ⌝ }
-{
-    call_of(calls[i], calls[i + 1], calls[i + 2], calls[i + 3], m)
-}
-
-// Was a call found?
-pub fn is_call(d: Decoded) -> bool
-    ensures { λ r. ⌜ r ≡ isSome (decodedAs d) ⌝ }
-{
-    match d {
-        Decoded::Is(_) => true,
-        Decoded::Bad => false,
-    }
-}
-
-// Are the words calls as they should be: at most 1,024, a multiple of 4, and each four of them a call?
-pub fn calls_right(calls: &[i32], m: usize) -> bool
-    ensures { λ r. ⌜ Decides r m (now (calls .entry)) ⌝ }
-{
-    if 1024 < calls.len() {
-        return false;
-    }
-    let mut i = 0;
-    while i < calls.len() {
-        if calls.len() - i < 4 {
-            return false;
-        }
-        if is_call(call_at(calls, i, m)) {
-            i += 4;
-            continue;
-        }
-        return false;
-    }
-    true
-}
-
 // ---- what a call finds
 
 // Does variable v hold a cell?
-pub fn is_held(variables: &[i32], v: usize, n: usize) -> bool
+fn is_held(variables: &[i32], v: usize, n: usize) -> bool
     requires { ⌜ v < length (now variables) ⌝ }
     ensures { λ r. ⌜ ((hs : List (Option ℕ)) → Held n (now (variables .entry)) hs → r ≡ isHeld (getD hs v none)) ⌝ }
 {
@@ -201,7 +37,7 @@ pub fn is_held(variables: &[i32], v: usize, n: usize) -> bool
 }
 
 // Field f of v's cell, nothing where v holds nothing.
-pub fn field_of(
+fn field_of(
     kinds: &[u8],
     values: &[i32],
     variables: &[i32],
@@ -219,7 +55,7 @@ pub fn field_of(
     Field::Nothing
 }
 
-pub fn is_cell(f: Field) -> bool
+fn is_cell(f: Field) -> bool
     ensures { λ r. ⌜ r ≡ isCell f ⌝ }
 {
     match f {
@@ -230,7 +66,7 @@ pub fn is_cell(f: Field) -> bool
     }
 }
 
-pub fn is_figure(f: Field) -> bool
+fn is_figure(f: Field) -> bool
     ensures { λ r. ⌜ r ≡ isFigure f ⌝ }
 {
     match f {
@@ -244,21 +80,21 @@ pub fn is_figure(f: Field) -> bool
 // ---- what refuses it
 
 // 0, or the number that says no.
-pub fn want(b: bool, k: usize) -> usize
+fn want(b: bool, k: usize) -> usize
     ensures { λ r. ⌜ r ≡ want b k ⌝ }
 {
     if b { 0 } else { k }
 }
 
 // The first that is not 0.
-pub fn or_else(j: usize, k: usize) -> usize
+fn or_else(j: usize, k: usize) -> usize
     ensures { λ r. ⌜ r ≡ orElse j k ⌝ }
 {
     if j == 0 { k } else { j }
 }
 
 // 11 where v holds nothing.
-pub fn check_one(variables: &[i32], v: usize, n: usize) -> usize
+fn check_one(variables: &[i32], v: usize, n: usize) -> usize
     requires { ⌜ v < length (now variables) ⌝ }
     ensures { λ r. ⌜ ((hs : List (Option ℕ)) → Held n (now (variables .entry)) hs → r ≡ want (isHeld (getD hs v none)) 11) ⌝ }
 {
@@ -266,7 +102,7 @@ pub fn check_one(variables: &[i32], v: usize, n: usize) -> usize
 }
 
 // 11 where v or w holds nothing.
-pub fn check_two(variables: &[i32], v: usize, w: usize, n: usize) -> usize
+fn check_two(variables: &[i32], v: usize, w: usize, n: usize) -> usize
     requires { ⌜ (v < length (now variables)) × (w < length (now variables)) ⌝ }
     ensures { λ r. ⌜ ((hs : List (Option ℕ)) → Held n (now (variables .entry)) hs → r ≡ want (isHeld (getD hs v none) && isHeld (getD hs w none)) 11) ⌝ }
 {
@@ -274,7 +110,7 @@ pub fn check_two(variables: &[i32], v: usize, w: usize, n: usize) -> usize
 }
 
 // 11 where v holds nothing, 12 where its field f is no cell.
-pub fn check_follow(
+fn check_follow(
     kinds: &[u8],
     values: &[i32],
     variables: &[i32],
@@ -290,7 +126,7 @@ pub fn check_follow(
 }
 
 // 11 where v holds nothing, 13 where its field f is no figure.
-pub fn check_read(
+fn check_read(
     kinds: &[u8],
     values: &[i32],
     variables: &[i32],
@@ -327,7 +163,7 @@ pub fn check(call: Call, kinds: &[u8], values: &[i32], variables: &[i32], n: usi
 // ---- what it logs
 
 // How many entries a field's old target takes.
-pub fn drop_count(f: Field) -> usize
+fn drop_count(f: Field) -> usize
     ensures { λ r. ⌜ (r ≡ length (drops f)) × (r ≤ 1) ⌝ }
 {
     match f {
@@ -339,7 +175,7 @@ pub fn drop_count(f: Field) -> usize
 }
 
 // How many entries a new target takes.
-pub fn make_count(variables: &[i32], w: usize, n: usize) -> usize
+fn make_count(variables: &[i32], w: usize, n: usize) -> usize
     requires { ⌜ w < length (now variables) ⌝ }
     ensures small { λ r. ⌜ r ≤ 1 ⌝ }
     ensures count { λ r. ⌜ ((hs : List (Option ℕ)) → Held n (now (variables .entry)) hs → r ≡ length (makes (getD hs w none))) ⌝ }
@@ -348,7 +184,7 @@ pub fn make_count(variables: &[i32], w: usize, n: usize) -> usize
 }
 
 // How many entries link logs.
-pub fn need_link(
+fn need_link(
     kinds: &[u8],
     values: &[i32],
     variables: &[i32],
@@ -365,7 +201,7 @@ pub fn need_link(
 }
 
 // How many entries put and blank log.
-pub fn need_store(
+fn need_store(
     kinds: &[u8],
     values: &[i32],
     variables: &[i32],
@@ -409,7 +245,7 @@ pub struct Acted {
 // ---- what it does
 
 // Variable v holds what w holds. The call's value.
-pub fn copy(variables: &mut [i32], n: usize, v: usize, w: usize) -> i32
+fn copy(variables: &mut [i32], n: usize, v: usize, w: usize) -> i32
     requires { ⌜ (v < length (now variables)) × ((w < length (now variables)) × (n ≤ 1024)) ⌝ }
     ensures value { λ r. ⌜ r ≡ pos 0 ⌝ }
     ensures holds { λ _. ⌜ ((hs : List (Option ℕ)) → Held n (now (variables .entry)) hs → Held n (now (variables .exit)) (set hs v (getD hs w none))) ⌝ }
@@ -420,7 +256,7 @@ pub fn copy(variables: &mut [i32], n: usize, v: usize, w: usize) -> i32
 }
 
 // Variable v holds nothing. The call's value.
-pub fn let_go(variables: &mut [i32], n: usize, v: usize) -> i32
+fn let_go(variables: &mut [i32], n: usize, v: usize) -> i32
     requires { ⌜ (v < length (now variables)) × (n ≤ 1024) ⌝ }
     ensures value { λ r. ⌜ r ≡ pos 0 ⌝ }
     ensures holds { λ _. ⌜ ((hs : List (Option ℕ)) → Held n (now (variables .entry)) hs → Held n (now (variables .exit)) (set hs v none)) ⌝ }
@@ -430,7 +266,7 @@ pub fn let_go(variables: &mut [i32], n: usize, v: usize) -> i32
 }
 
 // The cell that a field names, or n where it names none.
-pub fn target_or(f: Field, n: usize) -> usize
+fn target_or(f: Field, n: usize) -> usize
     ensures { λ r. ⌜ (Inside n f → heldAs n r ≡ target f) ⌝ }
 {
     match f {
@@ -442,7 +278,7 @@ pub fn target_or(f: Field, n: usize) -> usize
 }
 
 // Variable w holds the cell that field f of v's cell names. The call's value.
-pub fn follow(
+fn follow(
     kinds: &[u8],
     values: &[i32],
     variables: &mut [i32],
@@ -462,7 +298,7 @@ pub fn follow(
 }
 
 // Field f of v's cell becomes x: a destroy is logged for its old target. The log's length afterwards.
-pub fn write(
+fn write(
     kinds: &mut [u8],
     values: &mut [i32],
     variables: &[i32],
@@ -484,7 +320,7 @@ pub fn write(
 }
 
 // Field f of v's cell becomes w's cell: a destroy for its old target is logged, then a create. The log's length afterwards.
-pub fn link(
+fn link(
     kinds: &mut [u8],
     values: &mut [i32],
     variables: &[i32],
@@ -504,7 +340,7 @@ pub fn link(
 }
 
 // The figure that a field is, else 0.
-pub fn figure_of(f: Field) -> i32
+fn figure_of(f: Field) -> i32
     ensures { λ r. ⌜ r ≡ figureOf f ⌝ }
 {
     match f {
@@ -516,7 +352,7 @@ pub fn figure_of(f: Field) -> i32
 }
 
 // The figure in field f of v's cell.
-pub fn read(kinds: &[u8], values: &[i32], variables: &[i32], n: usize, v: usize, f: usize) -> i32
+fn read(kinds: &[u8], values: &[i32], variables: &[i32], n: usize, v: usize, f: usize) -> i32
     requires { ⌜ Reach n (now kinds) (now values) (now variables) v f ⌝ }
     ensures { λ r. ⌜ ((s : Shape) → Shown n (now (kinds .entry)) (now (values .entry)) (now (variables .entry)) s → r ≡ figureOf (at s v f)) ⌝ }
 {
@@ -524,7 +360,7 @@ pub fn read(kinds: &[u8], values: &[i32], variables: &[i32], n: usize, v: usize,
 }
 
 // 1 if v and w hold one cell, else 0.
-pub fn same(variables: &[i32], n: usize, v: usize, w: usize) -> i32
+fn same(variables: &[i32], n: usize, v: usize, w: usize) -> i32
     requires { ⌜ (v < length (now variables)) × (w < length (now variables)) ⌝ }
     ensures { λ r. ⌜ ((hs : List (Option ℕ)) → Held n (now (variables .entry)) hs → r ≡ cond (sameCell (getD hs v none) (getD hs w none)) (pos 1) (pos 0)) ⌝ }
 {
@@ -537,7 +373,7 @@ pub fn same(variables: &[i32], n: usize, v: usize, w: usize) -> i32
 }
 
 // A call that was done, with its value.
-pub fn done(len: usize, first: usize, value: i32) -> Acted
+fn done(len: usize, first: usize, value: i32) -> Acted
     ensures { λ r. ⌜ Plain len first value r ⌝ }
 {
     Acted {
@@ -549,7 +385,7 @@ pub fn done(len: usize, first: usize, value: i32) -> Acted
 }
 
 // The first free cell is taken, both fields nothing: v holds it, an allocate is logged; 14 where no cell is free.
-pub fn take(
+fn take(
     kinds: &mut [u8],
     values: &mut [i32],
     variables: &mut [i32],

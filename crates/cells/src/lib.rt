@@ -61,7 +61,7 @@ pub fn field_at(kinds: &[u8], values: &[i32], i: usize) -> Field
 }
 
 // A field's kind byte.
-pub fn field_kind(f: Field) -> u8
+fn field_kind(f: Field) -> u8
     ensures { λ r. ⌜ r ≡ kindOf f ⌝ }
 {
     match f {
@@ -73,7 +73,7 @@ pub fn field_kind(f: Field) -> u8
 }
 
 // A field's signed value.
-pub fn field_value(f: Field) -> i32
+fn field_value(f: Field) -> i32
     requires { ⌜ Inside 1024 f ⌝ }
     ensures { λ r. ⌜ r ≡ valueOf f ⌝ }
 {
@@ -104,7 +104,7 @@ pub fn held(variables: &[i32], v: usize, n: usize) -> usize
 }
 
 // The word of a variable that holds a, or nothing where a is n or more.
-pub fn variable_of(n: usize, a: usize) -> i32
+fn variable_of(n: usize, a: usize) -> i32
     requires { ⌜ n ≤ 1024 ⌝ }
     ensures { λ r. ⌜ r ≡ variableOf (heldAs n a) ⌝ }
 {
@@ -187,7 +187,7 @@ pub fn free_cell(kinds: &mut [u8], values: &mut [i32], a: usize, next: usize)
 }
 
 // The free address after a free cell, from its field 0.
-pub fn after_field(f: Field) -> usize
+fn after_field(f: Field) -> usize
     ensures { λ r. ⌜ r ≡ after f ⌝ }
 {
     match f {
@@ -210,7 +210,7 @@ pub fn take_free(kinds: &mut [u8], values: &mut [i32], a: usize) -> usize
 }
 
 // The mark of a, where the row has a place for it.
-pub fn mark(row: &mut [u32], a: usize)
+fn mark(row: &mut [u32], a: usize)
     ensures { λ _. ⌜ now (row .exit) ≡ set (now (row .entry)) a 1 ⌝ }
 {
     if a < row.len() {
@@ -233,7 +233,7 @@ pub fn mark_held(variables: &[i32], work: &mut [u32])
 }
 
 // All cells free in the order 0, 1, .. n-1.
-pub fn fresh_cells(kinds: &mut [u8], values: &mut [i32], n: usize)
+fn fresh_cells(kinds: &mut [u8], values: &mut [i32], n: usize)
     requires { ⌜ (length (now kinds) ≡ 2 * n) × ((length (now values) ≡ 2 * n) × (n ≤ 1024)) ⌝ }
     ensures { λ _. ⌜ (now (kinds .exit) ≡ map kindOf (freeFrom 0 n)) × (now (values .exit) ≡ map valueOf (freeFrom 0 n)) ⌝ }
 {
@@ -245,7 +245,7 @@ pub fn fresh_cells(kinds: &mut [u8], values: &mut [i32], n: usize)
 }
 
 // No variable holds anything.
-pub fn fill_nothing(variables: &mut [i32])
+fn fill_nothing(variables: &mut [i32])
     ensures { λ _. ⌜ now (variables .exit) ≡ replicate (length (now (variables .entry))) (negsuc 0) ⌝ }
 {
     let mut i = 0;

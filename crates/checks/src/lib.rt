@@ -12,7 +12,7 @@ use cells::address_or;
 use rules::Head;
 
 // Does b name a cell that isn't free?
-pub fn live(kinds: &[u8], n: usize, b: usize) -> bool
+fn live(kinds: &[u8], n: usize, b: usize) -> bool
     requires { ⌜ (length (now kinds) ≡ 2 * n) × (n ≤ 1024) ⌝ }
     ensures { λ r. ⌜ Says r (Live n (now (kinds .entry)) b) ⌝ }
 {
@@ -26,7 +26,7 @@ pub fn live(kinds: &[u8], n: usize, b: usize) -> bool
 }
 
 // Is the word in field f of cell a a free cell's mark, as it is to be?
-pub fn mark(kinds: &[u8], n: usize, a: usize, f: usize, x: i32) -> bool
+fn mark(kinds: &[u8], n: usize, a: usize, f: usize, x: i32) -> bool
     requires { ⌜ (length (now kinds) ≡ 2 * n) × ((n ≤ 1024) × (a < n)) ⌝ }
     ensures { λ r. ⌜ Says r (Mark n (now (kinds .entry)) a f x) ⌝ }
 {
@@ -43,7 +43,7 @@ pub fn mark(kinds: &[u8], n: usize, a: usize, f: usize, x: i32) -> bool
 }
 
 // Is the word in field f of cell a as it is to be?
-pub fn word(kinds: &[u8], values: &[i32], n: usize, a: usize, f: usize) -> bool
+fn word(kinds: &[u8], values: &[i32], n: usize, a: usize, f: usize) -> bool
     requires { ⌜ CellRows n (now kinds) (now values) ⌝ }
     requires { ⌜ (a < n) × (f < 2) ⌝ }
     ensures { λ r. ⌜ Says r (WordAt n (now (kinds .entry)) (now (values .entry)) a f) ⌝ }
@@ -70,7 +70,7 @@ pub fn word(kinds: &[u8], values: &[i32], n: usize, a: usize, f: usize) -> bool
 }
 
 // Does a row, 0 for kinds or 1 for values, show field f of cell a as it is to be?
-pub fn word_in(kinds: &[u8], values: &[i32], n: usize, row: usize, a: usize, f: usize) -> bool
+fn word_in(kinds: &[u8], values: &[i32], n: usize, row: usize, a: usize, f: usize) -> bool
     requires { ⌜ CellRows n (now kinds) (now values) ⌝ }
     requires { ⌜ (a < n) × (f < 2) ⌝ }
     ensures { λ r. ⌜ Says r (WordIn n (now (kinds .entry)) (now (values .entry)) row a f) ⌝ }
@@ -151,7 +151,7 @@ pub fn all_met(kinds: &[u8], n: usize, work: &[u32]) -> bool
 }
 
 // The cell that the word at place i points to, n where it points to none.
-pub fn points_to(kinds: &[u8], values: &[i32], n: usize, i: usize) -> usize
+fn points_to(kinds: &[u8], values: &[i32], n: usize, i: usize) -> usize
     requires { ⌜ (i < length (now kinds)) × (i < length (now values)) ⌝ }
     ensures { λ r. ⌜ r ≡ pointsTo n (getD (now (kinds .entry)) i 0) (getD (now (values .entry)) i (pos 0)) ⌝ }
 {
@@ -180,7 +180,7 @@ pub fn count(kinds: &[u8], values: &[i32], n: usize, work: &mut [u32])
 }
 
 // Is a the used part's entry j?
-pub fn stands(row: &[u32], used: usize, j: usize, a: usize) -> bool
+fn stands(row: &[u32], used: usize, j: usize, a: usize) -> bool
     requires { ⌜ used ≤ length (now row) ⌝ }
     ensures { λ r. ⌜ Says r (At (now (row .entry)) used j a) ⌝ }
 {
@@ -195,7 +195,7 @@ pub fn stands(row: &[u32], used: usize, j: usize, a: usize) -> bool
 }
 
 // Is the count c exact, if it is below the cap?
-pub fn exact(c: u32, cap: usize, w: u32) -> bool
+fn exact(c: u32, cap: usize, w: u32) -> bool
     ensures { λ r. ⌜ Says r (c < cap → w ≡ c) ⌝ }
 {
     if cap <= c as usize {
@@ -208,7 +208,7 @@ pub fn exact(c: u32, cap: usize, w: u32) -> bool
 }
 
 // Is one pointer there to a cell, if it isn't free?
-pub fn single(kinds: &[u8], a: usize, w: u32) -> bool
+fn single(kinds: &[u8], a: usize, w: u32) -> bool
     requires { ⌜ 2 * a < length (now kinds) ⌝ }
     ensures { λ r. ⌜ Says r ((mark (now (kinds .entry)) a ≡ 3 → ⊥) → w ≡ 1) ⌝ }
 {
@@ -280,7 +280,7 @@ pub fn all_held(zct: &[u32], used: usize, work: &[u32]) -> bool
 }
 
 // Is the entry j above the one before it?
-pub fn ascends(row: &[u32], j: usize) -> bool
+fn ascends(row: &[u32], j: usize) -> bool
     requires { ⌜ j < length (now row) ⌝ }
     ensures { λ r. ⌜ Says r ((i : ℕ) → i + 1 ≡ j → getD (now (row .entry)) i 0 < getD (now (row .entry)) j 0) ⌝ }
 {
@@ -348,7 +348,7 @@ pub fn ranged(counts: &[u32], used: usize, cap: usize) -> bool
 }
 
 // Is a variable's word -1 or a cell's that isn't free?
-pub fn variable(kinds: &[u8], n: usize, x: i32) -> bool
+fn variable(kinds: &[u8], n: usize, x: i32) -> bool
     requires { ⌜ (length (now kinds) ≡ 2 * n) × (n ≤ 1024) ⌝ }
     ensures { λ r. ⌜ Says r (Variable n (now (kinds .entry)) x) ⌝ }
 {

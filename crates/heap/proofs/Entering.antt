@@ -21,7 +21,7 @@ use Rattle.rules.proofs.Demands.{demand-1, demand-2}
 use Rattle.rules.proofs.Demand1.{fresh-refused, fresh-accepted}
 use Rattle.rules.proofs.Entry.{entry-ended}
 use Rattle.rules.proofs.Whole.{whole-at}
-use Rattle.calls.proofs.Listing.{listed}
+use Rattle.words.proofs.Listing.{listed}
 use Rattle.working.specs.Working.{Standing, Runnable, Batched as Done, startOf}
 
 -- what the first check found out

@@ -5,7 +5,7 @@ ghost use Rattle.rules.specs.Refusals.{leaves, leavesWith, freshOf, auditOf, ba
 use audit::answer;
 use audit::sized;
 use audit::sound;
-use calls::calls_right;
+use words::calls_right;
 use cells::fresh_rows;
 use rules::Head;
 use rules::Outcome;

@@ -29,7 +29,7 @@ fn read_as(line: Line, text: &[u8], at: usize, number: usize) -> Read
 }
 
 // The line at a place, after so many, read as line 1.
-pub fn scan_first(text: &[u8], at: usize, number: usize) -> Read
+fn scan_first(text: &[u8], at: usize, number: usize) -> Read
     requires { ⌜ (at ≤ length (now text)) × (number < 1000000) ⌝ }
     ensures { λ r. ⌜ r ≡ firstRead (now (text .entry)) at number ⌝ }
 {
@@ -38,7 +38,7 @@ pub fn scan_first(text: &[u8], at: usize, number: usize) -> Read
 }
 
 // The line at a place, after so many, read as a later line.
-pub fn scan_later(text: &[u8], at: usize, number: usize, m: usize) -> Read
+fn scan_later(text: &[u8], at: usize, number: usize, m: usize) -> Read
     requires { ⌜ (at ≤ length (now text)) × (number < 1000000) ⌝ }
     ensures { λ r. ⌜ r ≡ laterRead m (now (text .entry)) at number ⌝ }
 {

@@ -15,9 +15,10 @@ use Rattle.rules.specs.Head.{Limits, Says, freshHead}
 use Rattle.script.specs.declared.Line.{Line}
 use Rattle.script.specs.declared.Line.the-variants as L
 use Rattle.script.specs.declared.Word.the-variants.{Number, Wrong}
+use Rattle.words.specs.Words.{isSome}
 use Rattle.script.specs.Text.{bytes, sameBytes, moreFields, fieldsOf}
 use Rattle.script.specs.Number.{numberOf, plainOf, figureOf}
-use Rattle.script.specs.Line.{wordIn, operations, operationOf, arity, wordOf, callIf, callWith, callLine, operationLine, lineOf, isFine, onNumber, heapLine, headLineOf, asWord, capped, isCall}
+use Rattle.script.specs.Line.{wordIn, operations, operationOf, arity, wordOf, callIf, callWith, callLine, operationLine, lineOf, isFine, onNumber, heapLine, headLineOf, asWord, capped}
 use Rattle.script.proofs.Meaning.{isFine-says, with-one, with-two, with-three, with-four}
 
 -- ---- the words of an operation
@@ -75,19 +76,19 @@ module _ (m : ℕ) (op : ℤ) (o₁ o₂ o₃ : Option ℤ) where
   no-third a b c d e = rw (word-some o₁ a c, word-some o₂ b d, word-none o₃ e)
 
   module _ (a b c : ℤ) (ea : asWord o₁ ≡ Number a) (eb : asWord o₂ ≡ Number b) (ec : asWord o₃ ≡ Number c) where
-    pub call-yes : true ≡ isCall (callOf m op a b c) → L.Call op a b c ≡ callWith m op o₁ o₂ o₃
+    pub call-yes : true ≡ isSome (callOf m op a b c) → L.Call op a b c ≡ callWith m op o₁ o₂ o₃
     unfolding callWith
     call-yes e = rw (word-some o₁ a ea, word-some o₂ b eb, word-some o₃ c ec) (go (callOf m op a b c) e)
       where
-        go : (o : Option Call) → true ≡ isCall o → L.Call op a b c ≡ callIf o (L.Call op a b c)
+        go : (o : Option Call) → true ≡ isSome o → L.Call op a b c ≡ callIf o (L.Call op a b c)
         go none h = absurd (let z : _≡_ {A = ℕ} 0 1 = cc in omega arith)
         go (some x) h = refl
 
-    pub call-no : false ≡ isCall (callOf m op a b c) → L.Bad ≡ callWith m op o₁ o₂ o₃
+    pub call-no : false ≡ isSome (callOf m op a b c) → L.Bad ≡ callWith m op o₁ o₂ o₃
     unfolding callWith
     call-no e = rw (word-some o₁ a ea, word-some o₂ b eb, word-some o₃ c ec) (go (callOf m op a b c) e)
       where
-        go : (o : Option Call) → false ≡ isCall o → L.Bad ≡ callIf o (L.Call op a b c)
+        go : (o : Option Call) → false ≡ isSome o → L.Bad ≡ callIf o (L.Call op a b c)
         go none h = refl
         go (some x) h = absurd (let z : _≡_ {A = ℕ} 0 1 = cc in omega arith)
 

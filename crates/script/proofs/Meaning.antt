@@ -14,9 +14,10 @@ use Rattle.rules.specs.Call.{callOf}
 use Rattle.rules.specs.Head.{Limits, Says, freshHead}
 use Rattle.script.specs.declared.Line.{Line}
 use Rattle.script.specs.declared.Line.the-variants as L
+use Rattle.words.specs.Words.{isSome}
 use Rattle.script.specs.Text.{bytes, sameBytes, fieldsOf}
 use Rattle.script.specs.Number.{numberOf}
-use Rattle.script.specs.Line.{operationOf, arity, wordOf, callIf, callWith, callLine, operationLine, lineOf, isFine, onNumber, heapLine, headLineOf, isCall}
+use Rattle.script.specs.Line.{operationOf, arity, wordOf, callIf, callWith, callLine, operationLine, lineOf, isFine, onNumber, heapLine, headLineOf}
 
 -- ---- the limits
 
@@ -123,7 +124,7 @@ first-says bs =
 -- a call of rules over m variables, the end of a batch, or bad
 abbrev pub Later : ℕ → Line → Type 0
 Later m (L.Heap n v l cap) = ⊥
-Later m (L.Call op a b c) = isCall (callOf m op a b c) ≡ true
+Later m (L.Call op a b c) = isSome (callOf m op a b c) ≡ true
 Later m L.Batch = Unit {0}
 Later m L.Bad = Unit {0}
 

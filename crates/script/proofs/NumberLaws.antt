@@ -1,6 +1,6 @@
--- Laws of numbers: what one more byte does. Assumes nothing.
+-- Laws of numbers: what one more byte does, and a minus. Assumes nothing.
 use Prim.Native.Nat.{ℕ, zero, suc, _+_, _*_, _-_, _≤_, _<_}
-use mathlib.Core.Path.{_≡_, refl}
+use mathlib.Core.Path.{_≡_, refl, ap, _∙_}
 use mathlib.Core.Bool.{Bool, true, false, cond, _&&_}
 use mathlib.Core.Option.{Option, none, some}
 use mathlib.Core.List.{List, [], _∷_}
@@ -9,8 +9,11 @@ use native.Mathlib.Omega.{arith}
 use lib.Dec.{leb}
 use lib.ListN.{length, getD, drop, drop-of-length-le}
 use lib.Seq.{drop-cons}
-use lib.IntN.{pos, negsuc}
+use lib.IntN.{pos, negsuc, _-ℤ_}
 use borrow.Author.Tests.{eq-eqb, ne-eqb, le-leb, lt-leb, lt-ltb, le-ltb, leb-true, leb-false}
+use mir.Syntax.{w32}
+use mir.Val.{SFits, toZ, ofZ}
+use mir.Facts.{toZ-ofZ, toZ-pos}
 use Rattle.script.specs.Number.{isDigit, digitsFrom, numberOf, within32, plain, minus, plainOf, figureOf}
 use Rattle.script.specs.Line.{capped}
 
@@ -135,3 +138,15 @@ pub figure-minus : (s : List ℕ) → (length s ≡ 0 → ⊥) → getD s 0 0 �
 unfolding figureOf
 figure-minus [] h e = absurd (h refl)
 figure-minus (b ∷ s) h e = rw (eq-eqb b 45 e)
+
+-- ---- a number after a minus
+
+less-one : (k : ℕ) → negsuc 0 -ℤ pos k ≡ negsuc k
+less-one zero = refl
+less-one (suc k) = ap negsuc (omega arith)
+
+pub minus-fits : (k : ℕ) → k < 2147483648 → SFits w32 (negsuc 0 -ℤ toZ w32 k)
+minus-fits k h = rw (toZ-pos w32 {n = k} h, less-one k) (record { sfits = h })
+
+pub minus-is : (k : ℕ) → k < 2147483648 → toZ w32 (ofZ w32 (negsuc 0 -ℤ toZ w32 k)) ≡ negsuc k
+minus-is k h = toZ-ofZ (minus-fits k h) ∙ rw (toZ-pos w32 {n = k} h) (less-one k)

@@ -1,6 +1,6 @@
 -- What a line says. Assumes nothing.
 use Prim.Native.Nat.{ℕ, suc, _+_}
-use mathlib.Core.Bool.{Bool, true, false, cond, _&&_}
+use mathlib.Core.Bool.{Bool, cond, _&&_}
 use mathlib.Core.Option.{Option, none, some}
 use mathlib.Core.List.{List, [], _∷_}
 use lib.Dec.{eqb, leb}
@@ -100,8 +100,3 @@ asWord (some x) = Number x
 abbrev pub capped : Option ℕ → ℕ
 capped none = 2147483649
 capped (some n) = cond (leb n 2147483648) n 2147483649
-
--- is it a call?
-abbrev pub isCall : Option Call → Bool
-isCall none = false
-isCall (some c) = true

@@ -5,11 +5,11 @@ ghost use mathlib.Core.List.{[]};
 ghost use Prim.Native.Nat.{ℕ, _+_, _≤_};
 ghost use lib.ListN.{length, getD, drop};
 ghost use lib.IntN.{pos};
-ghost use mathlib.Core.Bool.{_&&_};
-ghost use Rattle.rules.specs.Call.{callOf, isBelow};
+ghost use Rattle.rules.specs.Call.{callOf};
+ghost use Rattle.words.specs.Words.{isSome};
 ghost use Rattle.script.specs.Text.{sameBytes, upTo, fieldsOf, lineAt, lineEnd, nextLine};
 ghost use Rattle.script.specs.Number.{digitsFrom, numberOf, plainOf, figureOf};
-ghost use Rattle.script.specs.Line.{operationOf, arity, wordOf, isCall, callLine, lineOf, heapLine, headLineOf, asWord, capped};
+ghost use Rattle.script.specs.Line.{operationOf, arity, wordOf, callLine, lineOf, heapLine, headLineOf, asWord, capped};
 ghost use Rattle.script.specs.Place.{Starts};
 
 // A line holds at most so many bytes besides its LF.
@@ -51,7 +51,7 @@ fn end_at(s: &[u8], at: usize, b: u8) -> usize
 }
 
 // Where the line that starts at a place ends.
-pub fn line_end(text: &[u8], at: usize) -> usize
+fn line_end(text: &[u8], at: usize) -> usize
     requires { ⌜ at ≤ length (now text) ⌝ }
     ensures { λ r. ⌜ r ≡ lineEnd (now (text .entry)) at ⌝ }
 {
@@ -270,42 +270,12 @@ fn word_at(line: &[u8], op: usize, i: usize) -> Word
     figure(field(line, i))
 }
 
-// Is a word below a limit?
-fn below(x: i32, limit: usize) -> bool
-    ensures { λ r. ⌜ r ≡ isBelow limit x ⌝ }
-{
-    if x < 0 {
-        return false;
-    }
-    (x as usize) < limit
-}
-
-// Are three words below their limits?
-fn within(la: usize, a: i32, lb: usize, b: i32, lc: usize, c: i32) -> bool
-    ensures { λ r. ⌜ r ≡ (isBelow la a && isBelow lb b && isBelow lc c) ⌝ }
-{
-    if below(a, la) {
-        if below(b, lb) {
-            return below(c, lc);
-        }
-        return false;
-    }
-    false
-}
-
 // Are four words a call?
 fn is_call(m: usize, op: usize, a: i32, b: i32, c: i32) -> bool
-    ensures { λ r. ⌜ r ≡ isCall (callOf m (pos op) a b c) ⌝ }
+    requires { ⌜ op ≤ 12 ⌝ }
+    ensures { λ r. ⌜ r ≡ isSome (callOf m (pos op) a b c) ⌝ }
 {
-    match op {
-        1 | 3 => within(m, a, 1, b, 1, c),
-        2 | 9 => within(m, a, m, b, 1, c),
-        4 | 7 => within(m, a, 2, b, m, c),
-        5 => within(m, a, 2, b, 1, 0),
-        6 | 8 => within(m, a, 2, b, 1, c),
-        10 => within(1, a, 1, b, 1, c),
-        _ => false,
-    }
+    words::is_call(words::call_of(op as i32, a, b, c, m))
 }
 
 // The call that a line of an operation says.

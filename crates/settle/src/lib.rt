@@ -30,7 +30,7 @@ use tables::destroy;
 use tables::find;
 
 // One entry of the log on the tables: kind 1 allocate, 2 create, 3 destroy.
-pub fn replay_one(
+fn replay_one(
     zct: &mut [u32],
     mrt: &mut [u32],
     counts: &mut [u32],
@@ -54,7 +54,7 @@ pub fn replay_one(
 }
 
 // The log's entries, len of them, in their order on the tables.
-pub fn replay(
+fn replay(
     log: &[u32],
     len: usize,
     zct: &mut [u32],
@@ -79,7 +79,7 @@ pub fn replay(
 }
 
 // The smaller of low and the cell that a field names.
-pub fn lower_to(low: u32, f: Field) -> u32
+fn lower_to(low: u32, f: Field) -> u32
     requires { ⌜ Inside 1024 f ⌝ }
     ensures { λ r. ⌜ r ≡ lowTo low f ⌝ }
 {
@@ -95,7 +95,7 @@ pub fn lower_to(low: u32, f: Field) -> u32
 }
 
 // A destroy for the target of a field that is let go, if it is a cell.
-pub fn let_go(
+fn let_go(
     zct: &mut [u32],
     mrt: &mut [u32],
     counts: &mut [u32],
@@ -116,7 +116,7 @@ pub fn let_go(
 }
 
 // Takes the entry at place p out of ZCT, and lets its cell's fields x and y go.
-pub fn release(
+fn release(
     zct: &mut [u32],
     mrt: &mut [u32],
     counts: &mut [u32],
@@ -147,7 +147,7 @@ pub struct Turn {
 }
 
 // Frees the cell at place p of ZCT.
-pub fn free_one(
+fn free_one(
     kinds: &mut [u8],
     values: &mut [i32],
     zct: &mut [u32],
@@ -179,7 +179,7 @@ pub fn free_one(
 }
 
 // The place of the first entry of ZCT with no mark, from low's place on: the used length where there is none.
-pub fn unheld(zct: &[u32], used: usize, work: &[u32], low: u32) -> usize
+fn unheld(zct: &[u32], used: usize, work: &[u32], low: u32) -> usize
     requires { ⌜ Scan (now zct) used (now work) low ⌝ }
     ensures { λ r. ⌜ Unheld (now (zct .entry)) used (now (work .entry)) r ⌝ }
 {
@@ -202,7 +202,7 @@ pub struct Reclaimed {
 }
 
 // Where the reclaiming stands, after so many cells were freed, as what it leaves.
-pub fn left_at(at: Turn, freed: usize) -> Reclaimed
+fn left_at(at: Turn, freed: usize) -> Reclaimed
     ensures { λ r. ⌜ r ≡ record { first = at .first; used = at .used; freed = freed } ⌝ }
 {
     let first = at.first;
@@ -215,7 +215,7 @@ pub fn left_at(at: Turn, freed: usize) -> Reclaimed
 }
 
 // While some ZCT cell has no mark, frees the one with the smallest address: at most `most` of them.
-pub fn reclaim(
+fn reclaim(
     kinds: &mut [u8],
     values: &mut [i32],
     zct: &mut [u32],
@@ -286,7 +286,7 @@ pub struct Room {
 }
 
 // What a settle left: its log is empty.
-pub fn emptied(r: Reclaimed) -> Room
+fn emptied(r: Reclaimed) -> Room
     ensures { λ o. ⌜ o ≡ record { first = r .first; used = r .used; len = 0; freed = r .freed } ⌝ }
 {
     let first = r.first;
@@ -301,7 +301,7 @@ pub fn emptied(r: Reclaimed) -> Room
 }
 
 // Where no settle was made, all is as it was.
-pub fn as_it_was(first: usize, used: Used, len: usize) -> Room
+fn as_it_was(first: usize, used: Used, len: usize) -> Room
     ensures { λ o. ⌜ o ≡ record { first = first; used = used; len = len; freed = 0 } ⌝ }
 {
     Room {

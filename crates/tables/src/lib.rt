@@ -30,7 +30,7 @@ pub fn find(row: &[u32], used: usize, a: u32) -> usize
 }
 
 // Moves the tail's elements one place up and puts x first: the last is lost.
-pub fn shift_up(tail: &mut [u32], x: u32)
+fn shift_up(tail: &mut [u32], x: u32)
     ensures { λ _. ⌜ now (tail .exit) ≡ take (length (now (tail .entry))) (x ∷ now (tail .entry)) ⌝ }
 {
     let mut carry = x;
@@ -44,7 +44,7 @@ pub fn shift_up(tail: &mut [u32], x: u32)
 }
 
 // Moves the tail's elements one place down: the first is lost, and 0 comes last.
-pub fn shift_down(tail: &mut [u32])
+fn shift_down(tail: &mut [u32])
     requires { ⌜ 0 < length (now tail) ⌝ }
     ensures { λ _. ⌜ now (tail .exit) ≡ drop 1 (now (tail .entry)) ++ (0 ∷ []) ⌝ }
 {
@@ -58,7 +58,7 @@ pub fn shift_down(tail: &mut [u32])
 }
 
 // Puts x into the used part at place p. Only what stands there and after it moves. The used length afterwards.
-pub fn put_at(row: &mut [u32], used: usize, p: usize, x: u32) -> usize
+fn put_at(row: &mut [u32], used: usize, p: usize, x: u32) -> usize
     requires { ⌜ Padded (now row) used ⌝ }
     requires { ⌜ (p ≤ used) × (used < length (now row)) ⌝ }
     ensures { λ r. ⌜ r ≡ used + 1 ⌝ }
@@ -81,7 +81,7 @@ pub fn cut_at(row: &mut [u32], used: usize, p: usize) -> usize
 }
 
 // Is a an entry of row's used part? Its place there is p.
-pub fn is_at(row: &[u32], used: usize, p: usize, a: u32) -> bool
+fn is_at(row: &[u32], used: usize, p: usize, a: u32) -> bool
     requires { ⌜ used ≤ length (now row) ⌝ }
     requires { ⌜ Ascending (take used (now row)) ⌝ }
     requires { ⌜ p ≡ place a (take used (now row)) ⌝ }
@@ -91,7 +91,7 @@ pub fn is_at(row: &[u32], used: usize, p: usize, a: u32) -> bool
 }
 
 // Enters a in its place, unless it is an entry already. The used length afterwards.
-pub fn enter(row: &mut [u32], used: usize, a: u32) -> usize
+fn enter(row: &mut [u32], used: usize, a: u32) -> usize
     requires { ⌜ Listed (now row) used ⌝ }
     requires { ⌜ a < length (now row) ⌝ }
     ensures { λ r. ⌜ ((n : ℕ) (z : List ℕ) → Is n (now (row .entry)) used z → Is n (now (row .exit)) r (insert a z)) ⌝ }
@@ -104,7 +104,7 @@ pub fn enter(row: &mut [u32], used: usize, a: u32) -> usize
 }
 
 // Deletes the entry a. The used length afterwards.
-pub fn leave(row: &mut [u32], used: usize, a: u32) -> usize
+fn leave(row: &mut [u32], used: usize, a: u32) -> usize
     requires { ⌜ Listed (now row) used ⌝ }
     requires { ⌜ has a (take used (now row)) ≡ true ⌝ }
     ensures { λ r. ⌜ ((n : ℕ) (z : List ℕ) → Is n (now (row .entry)) used z → Is n (now (row .exit)) r (remove a z)) ⌝ }
@@ -114,7 +114,7 @@ pub fn leave(row: &mut [u32], used: usize, a: u32) -> usize
 }
 
 // One more than c, which stays where it is at the cap.
-pub fn raise(cap: u32, c: u32) -> u32
+fn raise(cap: u32, c: u32) -> u32
     requires { ⌜ c ≤ cap ⌝ }
     ensures { λ r. ⌜ Moved cap c (c + 1) r ⌝ }
 {
@@ -122,7 +122,7 @@ pub fn raise(cap: u32, c: u32) -> u32
 }
 
 // One less than c, which stays where it is at the cap.
-pub fn lower(cap: u32, c: u32) -> u32
+fn lower(cap: u32, c: u32) -> u32
     requires { ⌜ (1 ≤ c) × (c ≤ cap) ⌝ }
     ensures { λ r. ⌜ Moved cap c (c - 1) r ⌝ }
 {
@@ -130,7 +130,7 @@ pub fn lower(cap: u32, c: u32) -> u32
 }
 
 // A create of a pointer to a that is not in ZCT. MRT's used length afterwards.
-pub fn count_up(mrt: &mut [u32], counts: &mut [u32], used: usize, cap: u32, a: u32) -> usize
+fn count_up(mrt: &mut [u32], counts: &mut [u32], used: usize, cap: u32, a: u32) -> usize
     requires { ⌜ Counted cap (now mrt) (now counts) used ⌝ }
     requires { ⌜ a < length (now mrt) ⌝ }
     ensures { λ r. ⌜ ((n : ℕ) (t : Tables) → Pair n (now (mrt .entry)) (now (counts .entry)) used (t .mrt) → Pair n (now (mrt .exit)) (now (counts .exit)) r (onCreate cap a t false (countIn a (t .mrt)) .mrt)) ⌝ }
@@ -146,7 +146,7 @@ pub fn count_up(mrt: &mut [u32], counts: &mut [u32], used: usize, cap: u32, a: u
 }
 
 // A destroy of a pointer to a that is in MRT. MRT's used length afterwards.
-pub fn count_down(mrt: &mut [u32], counts: &mut [u32], used: usize, cap: u32, a: u32) -> usize
+fn count_down(mrt: &mut [u32], counts: &mut [u32], used: usize, cap: u32, a: u32) -> usize
     requires { ⌜ Counted cap (now mrt) (now counts) used ⌝ }
     requires { ⌜ has a (take used (now mrt)) ≡ true ⌝ }
     ensures { λ r. ⌜ ((n : ℕ) (t : Tables) → Pair n (now (mrt .entry)) (now (counts .entry)) used (t .mrt) → Pair n (now (mrt .exit)) (now (counts .exit)) r (onDestroy cap a t (countIn a (t .mrt)) .mrt)) ⌝ }

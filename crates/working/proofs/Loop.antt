@@ -25,8 +25,8 @@ use Rattle.rules.proofs.Calls.{Fits, AllFit, calls-in-fit}
 use Rattle.rules.proofs.Demand1.{words-long}
 use Rattle.rules.proofs.Whole.{rows-all, head-is}
 use Rattle.cells.proofs.Storing.{cell-lengths}
-use Rattle.calls.specs.Words.{callAt}
-use Rattle.calls.proofs.Listing.{Listed, listed}
+use Rattle.words.specs.Words.{callAt}
+use Rattle.words.proofs.Listing.{Listed, listed}
 use Rattle.settle.specs.declared.Reclaimed.{Reclaimed}
 use Rattle.settle.specs.Settling.{Settled}
 use Rattle.working.specs.declared.State.{State}

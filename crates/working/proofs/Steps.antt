@@ -29,9 +29,9 @@ use Rattle.rules.proofs.Reclaim.{lives-le}
 use Rattle.rules.proofs.Facts.{settled-sum, check-below, call-refused}
 use Rattle.cells.proofs.Storing.{cell-lengths}
 use Rattle.calls.specs.declared.Acted.{Acted}
-use Rattle.calls.specs.declared.Decoded.{Decoded}
-use Rattle.calls.specs.declared.Decoded.the-variants.{Is, Bad}
-use Rattle.calls.specs.Words.{decodedAs, callAt}
+use Rattle.words.specs.declared.Decoded.{Decoded}
+use Rattle.words.specs.declared.Decoded.the-variants.{Is, Bad}
+use Rattle.words.specs.Words.{decodedAs, callAt}
 use mathlib.Core.Option.{Option, some}
 use Rattle.calls.specs.Seen.{Shown, Named, Reaches}
 use Rattle.calls.specs.Doing.{Did, Able}

@@ -21,7 +21,7 @@ use Rattle.rules.specs.Refusals.{outcome, answered}
 use Rattle.rules.proofs.Invariant.{Inv}
 use Rattle.rules.proofs.Fine.{Fine}
 use Rattle.rules.proofs.Calls.{Fits, AllFit}
-use Rattle.calls.specs.Words.{callAt}
+use Rattle.words.specs.Words.{callAt}
 use Rattle.calls.specs.Seen.{needs}
 use Rattle.calls.specs.Doing.{acted}
 use Rattle.calls.specs.declared.Acted.{Acted}

@@ -13,13 +13,13 @@ ghost use Rattle.rules.specs.Settle.{Heap};
 ghost use Rattle.rules.specs.Call.{callsIn};
 ghost use Rattle.rules.specs.Step.{step as stepped};
 ghost use Rattle.rules.specs.Rows.{lent};
-ghost use Rattle.calls.specs.Words.{callAt};
+ghost use Rattle.words.specs.Words.{callAt};
 ghost use Rattle.calls.specs.Seen.{needs};
 ghost use Rattle.working.specs.Working.{wants, valued, LeftBy, Standing, Workable, Answered, Callable, Turnable, Turned, Runnable, Ran, Endable, Finished, Batched, startOf};
 use calls::Acted;
-use calls::Decoded;
+use words::Decoded;
 use calls::act;
-use calls::call_at;
+use words::call_at;
 use calls::check;
 use calls::need;
 use cells::value_of;
@@ -47,7 +47,7 @@ pub struct Worked {
 }
 
 // Is a settle made before the call, which needs so many entries?
-pub fn settles_first(call: Call, need: usize, n: usize, l: usize, len: usize, first: usize) -> bool
+fn settles_first(call: Call, need: usize, n: usize, l: usize, len: usize, first: usize) -> bool
     requires { ⌜ (need ≤ 2) × (len ≤ 1024) ⌝ }
     ensures { λ r. ⌜ ((s : Sizes) (h : Heap) → s .n ≡ n → s .l ≡ l → len ≡ length (h .log) → first ≡ h .first → need ≡ needs call (h .shape) → r ≡ wants s call h) ⌝ }
 {
@@ -72,7 +72,7 @@ pub fn settles_first(call: Call, need: usize, n: usize, l: usize, len: usize, fi
 }
 
 // A call's value: a settle call's is the number of cells that its settle freed.
-pub fn answer_value(call: Call, freed: usize, value: i32) -> i32
+fn answer_value(call: Call, freed: usize, value: i32) -> i32
     requires { ⌜ freed ≤ 1024 ⌝ }
     ensures { λ r. ⌜ ((status : ℕ) → r ≡ valued call freed (record { status = status; value = value }) .value) ⌝ }
 {
@@ -91,7 +91,7 @@ pub fn answer_value(call: Call, freed: usize, value: i32) -> i32
 }
 
 // What a call leaves: from its settle and from what it did.
-pub fn left(call: Call, room: Room, acted: Acted, freed: usize) -> Worked
+fn left(call: Call, room: Room, acted: Acted, freed: usize) -> Worked
     requires { ⌜ (room .freed ≤ 1024) × (freed ≤ 1000000) ⌝ }
     ensures { λ r. ⌜ LeftBy call room acted freed r ⌝ }
 {
@@ -112,7 +112,7 @@ pub fn left(call: Call, room: Room, acted: Acted, freed: usize) -> Worked
 }
 
 // A call is worked: refused with 11 to 13, or settled first where it wants that, and then done.
-pub fn step(
+fn step(
     call: Call,
     kinds: &mut [u8],
     values: &mut [i32],
@@ -165,7 +165,7 @@ pub fn step(
 }
 
 // The call that stands at the start of these words is worked. (A batch's words were found right before.)
-pub fn work_call(
+fn work_call(
     words: &[i32],
     kinds: &mut [u8],
     values: &mut [i32],
@@ -206,7 +206,7 @@ pub fn work_call(
 }
 
 // Call i of a batch is worked from the four words where it starts, and its answer is written.
-pub fn work_turn(
+fn work_turn(
     calls: &[i32],
     i: usize,
     kinds: &mut [u8],
@@ -248,7 +248,7 @@ pub fn work_turn(
 }
 
 // The calls of a batch, one after the other.
-pub fn work_calls(
+fn work_calls(
     calls: &[i32],
     kinds: &mut [u8],
     values: &mut [i32],
@@ -290,7 +290,7 @@ pub fn work_calls(
 }
 
 // The settle at a batch's end, and what the batch returns.
-pub fn end_batch(
+fn end_batch(
     kinds: &mut [u8],
     values: &mut [i32],
     variables: &[i32],
@@ -340,7 +340,7 @@ pub fn end_batch(
 }
 
 // Where a batch starts.
-pub fn start(head: Head) -> State
+fn start(head: Head) -> State
     ensures { λ r. ⌜ r ≡ startOf head ⌝ }
 {
     let used = Used {

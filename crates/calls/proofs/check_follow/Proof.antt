@@ -1,7 +1,6 @@
-use mathlib.Core.Path.{_∙_, ap}
+use mathlib.Core.Path.{_∙_, ap, ap₂}
 use mathlib.Core.Bool.{Bool}
 use Rattle.rules.specs.Call.{orElse, want, var, isCell}
-use Rattle.calls.proofs.Words.{ap-two}
 use borrow.Author.Needs.{needs}
 use Rattle.calls.proofs.check_follow.Statement.{statement}
 use Rattle.calls.proofs.check_follow.Tie as tie
@@ -39,7 +38,7 @@ unfolding var
 returns c =
     λ s S.
     c .or-else .ensures
-    ∙ ap-two orElse (c .before .before .before .check-one .ensures _ (S .held)) (c .before .want .ensures ∙ ap (λ (b : Bool). want b 12) (c .before .before .is-cell .ensures ∙ ap isCell (c .before .before .before .before .field-of .ensures s S)))
+    ∙ ap₂ orElse (c .before .before .before .check-one .ensures _ (S .held)) (c .before .want .ensures ∙ ap (λ (b : Bool). want b 12) (c .before .before .is-cell .ensures ∙ ap isCell (c .before .before .before .before .field-of .ensures s S)))
 
 pub check-follow-spec : {M : Type 1} → statement M
 check-follow-spec =

@@ -1,6 +1,5 @@
-use mathlib.Core.Path.{_∙_}
+use mathlib.Core.Path.{_∙_, ap₂}
 use Rattle.rules.specs.Call.{orElse}
-use Rattle.calls.proofs.Words.{ap-two}
 use Rattle.calls.proofs.Seeing.{both-11}
 use borrow.Author.Needs.{needs}
 use Rattle.calls.proofs.check_two.Statement.{statement}
@@ -24,7 +23,7 @@ or-else-requires c κs = search needs
 
 -- src/lib.rt:257:1
 returns : tie.Need-returns
-returns c = λ hs H. c .or-else .ensures ∙ ap-two orElse (c .before .before .check-one .ensures hs H) (c .before .check-one2 .ensures hs H) ∙ both-11 _ _
+returns c = λ hs H. c .or-else .ensures ∙ ap₂ orElse (c .before .before .check-one .ensures hs H) (c .before .check-one2 .ensures hs H) ∙ both-11 _ _
 
 pub check-two-spec : {M : Type 1} → statement M
 check-two-spec =

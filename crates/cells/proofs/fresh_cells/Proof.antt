@@ -1,7 +1,6 @@
 -- `cells::fresh_cells` meets its contract. The loop's invariant: the rows of the first `a` free cells, and the rows as they were from there on. Assumes nothing.
-use mathlib.Core.Path.{_∙_}
+use mathlib.Core.Path.{_∙_, _≡_}
 use borrow.Author.Needs.{needs}
-use mathlib.Core.Path.{_≡_}
 use mathlib.Core.List.{_++_, map}
 use Prim.Native.Nat.{_≤_, _-_, _*_}
 use native.Mathlib.Omega.{arith}

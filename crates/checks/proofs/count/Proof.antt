@@ -1,7 +1,6 @@
-use mathlib.Core.Path.{sym, subst}
+use mathlib.Core.Path.{sym, subst, _≡_, refl}
 use native.Mathlib.Omega.{arith}
 use borrow.Author.Needs.{needs}
-use mathlib.Core.Path.{_≡_, refl}
 use mathlib.Core.Logic.{⊎-elim}
 use Prim.Native.Nat.{_≤_, _-_, _*_}
 use lib.ListN.{length, length-replicate}

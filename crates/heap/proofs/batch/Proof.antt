@@ -8,7 +8,7 @@ use Rattle.heap.proofs.batch.Lts as lts
 use Rattle.audit.proofs.answer.Reads as answer-reads
 use Rattle.audit.proofs.sized.Reads as sized-reads
 use Rattle.audit.proofs.sound.Reads as sound-reads
-use Rattle.calls.proofs.calls_right.Reads as calls-right-reads
+use Rattle.words.proofs.calls_right.Reads as calls-right-reads
 use Rattle.working.proofs.run_batch.Reads as run-batch-reads
 
 -- src/lib.rt:88:9

@@ -5,7 +5,7 @@ use Rattle.working.proofs.work_call.Statement.{statement}
 use Rattle.working.proofs.work_call.Tie as tie
 use Rattle.working.proofs.work_call.Reads as reads
 use Rattle.working.proofs.work_call.Lts as lts
-use Rattle.calls.proofs.call_at.Reads as call-at-reads
+use Rattle.words.proofs.call_at.Reads as call-at-reads
 use Rattle.working.proofs.step.Reads as step-reads
 
 -- src/lib.rt:178:9

@@ -1,0 +1,32 @@
+use Rattle.rules.specs.Call.{isBelow}
+use Rattle.words.proofs.Words.{same, all-are}
+use mathlib.Core.Path.{refl}
+use borrow.Author.Needs.{needs}
+use Rattle.words.proofs.field_and_figure.Statement.{statement}
+use Rattle.words.proofs.field_and_figure.Tie as tie
+use Rattle.words.proofs.field_and_figure.Reads as reads
+use Rattle.words.proofs.field_and_figure.Lts as lts
+use Rattle.words.proofs.all.Reads as all-reads
+use Rattle.words.proofs.is_below.Reads as is-below-reads
+
+-- src/lib.rt:86:9
+is-below-requires : tie.Need-is-below-requires
+is-below-requires c κs = search needs
+
+-- src/lib.rt:86:25
+is-below-requires-2 : tie.Need-is-below-requires-2
+is-below-requires-2 c κs = search needs
+
+-- src/lib.rt:86:5
+all-requires : tie.Need-all-requires
+all-requires c κs = search needs
+
+-- src/lib.rt:83:1
+returns : tie.Need-returns
+returns c =
+    let s = c .before .before .before in
+    all-are (c .all .ensures) (same (isBelow _) (s .fits .a) (c .before .before .is-below .ensures)) (same (isBelow 2) (s .fits .b) (c .before .is-below2 .ensures)) refl
+
+pub field-and-figure-spec : {M : Type 1} → statement M
+field-and-figure-spec =
+    tie.close (tie.spec is-below-requires is-below-requires-2 all-requires returns)

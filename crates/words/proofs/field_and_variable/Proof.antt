@@ -1,0 +1,36 @@
+use Rattle.rules.specs.Call.{isBelow}
+use Rattle.words.proofs.Words.{same, all-are}
+use borrow.Author.Needs.{needs}
+use Rattle.words.proofs.field_and_variable.Statement.{statement}
+use Rattle.words.proofs.field_and_variable.Tie as tie
+use Rattle.words.proofs.field_and_variable.Reads as reads
+use Rattle.words.proofs.field_and_variable.Lts as lts
+use Rattle.words.proofs.all.Reads as all-reads
+use Rattle.words.proofs.is_below.Reads as is-below-reads
+
+-- src/lib.rt:79:9
+is-below-requires : tie.Need-is-below-requires
+is-below-requires c κs = search needs
+
+-- src/lib.rt:79:25
+is-below-requires-2 : tie.Need-is-below-requires-2
+is-below-requires-2 c κs = search needs
+
+-- src/lib.rt:79:41
+is-below-requires-3 : tie.Need-is-below-requires-3
+is-below-requires-3 c κs = search needs
+
+-- src/lib.rt:79:5
+all-requires : tie.Need-all-requires
+all-requires c κs = search needs
+
+-- src/lib.rt:76:1
+returns : tie.Need-returns
+returns c =
+    let s = c .before .before .before .before in
+    all-are (c .all .ensures) (same (isBelow _) (s .fits .a) (c .before .before .before .is-below .ensures)) (same (isBelow 2) (s .fits .b) (c .before .before .is-below2 .ensures)) (same (isBelow _) (s .fits .c) (c .before .is-below3 .ensures))
+
+pub field-and-variable-spec : {M : Type 1} → statement M
+field-and-variable-spec =
+    tie.close
+    (tie.spec is-below-requires is-below-requires-2 is-below-requires-3 all-requires returns)

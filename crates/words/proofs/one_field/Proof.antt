@@ -1,0 +1,37 @@
+use Rattle.rules.specs.Call.{isBelow, isNought}
+use Rattle.words.proofs.Words.{same, all-are}
+use borrow.Author.Needs.{needs}
+use Rattle.words.proofs.one_field.Statement.{statement}
+use Rattle.words.proofs.one_field.Tie as tie
+use Rattle.words.proofs.one_field.Reads as reads
+use Rattle.words.proofs.one_field.Lts as lts
+use Rattle.words.proofs.all.Reads as all-reads
+use Rattle.words.proofs.is_below.Reads as is-below-reads
+use Rattle.words.proofs.is_nought.Reads as is-nought-reads
+
+-- src/lib.rt:93:9
+is-below-requires : tie.Need-is-below-requires
+is-below-requires c κs = search needs
+
+-- src/lib.rt:93:25
+is-below-requires-2 : tie.Need-is-below-requires-2
+is-below-requires-2 c κs = search needs
+
+-- src/lib.rt:93:41
+is-nought-requires : tie.Need-is-nought-requires
+is-nought-requires c κs = search needs
+
+-- src/lib.rt:93:5
+all-requires : tie.Need-all-requires
+all-requires c κs = search needs
+
+-- src/lib.rt:90:1
+returns : tie.Need-returns
+returns c =
+    let s = c .before .before .before .before in
+    all-are (c .all .ensures) (same (isBelow _) (s .fits .a) (c .before .before .before .is-below .ensures)) (same (isBelow 2) (s .fits .b) (c .before .before .is-below2 .ensures)) (same (isNought) (s .fits .c) (c .before .is-nought .ensures))
+
+pub one-field-spec : {M : Type 1} → statement M
+one-field-spec =
+    tie.close
+    (tie.spec is-below-requires is-below-requires-2 is-nought-requires all-requires returns)

@@ -1,0 +1,2 @@
+-- the definitions that words' contracts cite
+pub mod Words
