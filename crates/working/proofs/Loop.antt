@@ -268,3 +268,18 @@ module _ {s : Sizes} (F : Fine s) {ds : List Call} {h : Heap} {ks : List ℕ} {x
 
   pub batched : {q : Lent} {o : Outcome} → Finished s (R .heap) q o → Batched s ds h q as′ bs o
   batched D = record { rows = D .rows ∙ ap (rowsOf s) (sym (R .ends)); is = rw (R .ends) (D .is); answers = R .answers }
+
+-- a batch from where it starts: its calls, then the settle at its end
+module _ {s : Sizes} {ws : List ℤ} {ks : List ℕ} {xs vs : List ℤ} {zs ms cs log work : List ℕ} {as′ : List ℤ} {at at′ : State} (same : at ≡ at′)
+    (K : Runnable s ws ks xs vs zs ms cs log work as′ at′) where
+  pub runnable-at : Runnable s ws ks xs vs zs ms cs log work as′ at
+  runnable-at = rw same K
+
+  module _ {ks′ : List ℕ} {xs′ vs′ : List ℤ} {zs′ ms′ cs′ log′ work′ : List ℕ} {bs : List ℤ} {st : State}
+      (W : (ds : List Call) (h : Heap) → callsIn (s .m) ws ≡ some ds → Standing s ks xs vs zs ms cs log work at h → Ran s ds h ks′ xs′ vs′ zs′ ms′ cs′ log′ work′ as′ bs st) where
+    pub endable-after : st .freed ≤ 262144 → Endable s ks′ xs′ vs′ zs′ ms′ cs′ log′ work′ st
+    endable-after f = endable (K .fine) (W (K .list) (K .heap) (K .are) (rw same (K .standing))) f
+
+    pub batched-after : {q : Lent} {o : Outcome} → ((h : Heap) → Standing s ks′ xs′ vs′ zs′ ms′ cs′ log′ work′ st h → Finished s h q o)
+        → (ds : List Call) (h : Heap) → callsIn (s .m) ws ≡ some ds → Standing s ks xs vs zs ms cs log work at′ h → Batched s ds h q as′ bs o
+    batched-after E ds h e S = let R = W ds h e (rw same S) in batched (K .fine) R (E (R .heap) (R .standing))

@@ -295,6 +295,43 @@ module _ {s : Sizes} (F : Fine s) {h : Heap} (I : Inv s h) (c : Call) (fit : Fit
               value = L .value (acted s c k .answer .status) ∙ rw (D .value, ← freed-now);
             }
 
+-- a call that passed its check, from what each part of the code says of the rows: the check, the need, the test for a settle, the settle
+module _ {s : Sizes} {ks : List ℕ} {xs vs : List ℤ} {zs ms cs log work : List ℕ} {at : State} {c : Call} (W : Workable s ks xs vs zs ms cs log work at c)
+    {no k : ℕ} (checked : (sh : Shape) → Shown (s .n) ks xs vs sh → no ≡ check c sh) (right : no ≡ 0) (needed : (sh : Shape) → Shown (s .n) ks xs vs sh → k ≡ needs c sh)
+    {make : Bool} (asked : (t : Sizes) (h : Heap) → t .n ≡ s .n → t .l ≡ s .l → at .len ≡ length (h .log) → at .first ≡ h .first → k ≡ needs c (h .shape) → make ≡ wants t c h)
+    {ks′ : List ℕ} {xs′ : List ℤ} {zs′ ms′ cs′ log′ work′ : List ℕ} {r : Room}
+    (made : (t : Sizes) (n : ℕ) (h : Heap) → t .n ≡ n → t .cap ≡ s .cap → Whole n (s .cap) ks xs vs zs ms cs log work (at .len) (at .first) (at .used) h → RoomMade make t n (s .cap) ks′ xs′ vs zs′ ms′ cs′ log′ work′ r h)
+    (same : length log′ ≡ length log) where
+  module _ {h : Heap} (S : Standing s ks xs vs zs ms cs log work at h) where
+    passed : check c (h .shape) ≡ 0
+    passed = sym (checked (h .shape) (shown S)) ∙ right
+
+    wanted : make ≡ wants s c h
+    wanted = asked s h refl refl (few (W .fine) S .1) (S .whole .rows .first) (needed (h .shape) (shown S))
+
+    roomy : RoomMade make s (s .n) (s .cap) ks′ xs′ vs zs′ ms′ cs′ log′ work′ r h
+    roomy = made s (s .n) h refl refl (S .whole)
+
+  pub able-now : Able (s .n) ks′ xs′ vs log′ (r .len) (r .first) c
+  able-now = let S = W .standing in can-act (W .fine) (S .inv) c (W .fits) (passed S) (wanted S) (roomy S) (same ∙ S .log-long)
+
+  pub few-both : (r .freed ≤ 1024) × (at .freed ≤ 1000000)
+  few-both = let S = W .standing in (few-now (W .fine) (S .inv) c (W .fits) (passed S) (wanted S) (roomy S) (same ∙ S .log-long), W .few)
+
+  -- the call is done
+  module _ {ks″ : List ℕ} {xs″ vs″ : List ℤ} {log″ : List ℕ} {a : Acted}
+      (did : (t : Sizes) (cap : ℕ) (zs ms cs work : List ℕ) (u : Used) (h : Heap) → t .n ≡ s .n → Whole (s .n) cap ks′ xs′ vs zs ms cs log′ work (r .len) (r .first) u h
+      → Did (s .n) cap ks″ xs″ vs″ zs ms cs log″ work u a (acted t c h))
+      (still : length log″ ≡ length log′) {w : Worked} (L : LeftBy c r a (at .freed) w) where
+    pub worked-as : (w .state .freed ≤ at .freed + 1024) × ((h : Heap) → Standing s ks xs vs zs ms cs log work at h → Answered s ks″ xs″ vs″ zs′ ms′ cs′ log″ work′ w (step s c h))
+    worked-as = (
+      rw (L .state) (let f = few-both .0 in omega arith),
+      λ h S.
+          let M = roomy S in
+          answered-as (W .fine) (S .inv) c (W .fits) (passed S) (wanted S) M (same ∙ S .log-long)
+          (did s (s .cap) zs′ ms′ cs′ work′ (r .used) (settledIf make s h) refl (M .whole)) (still ∙ same ∙ S .log-long) (S .freed) L,
+    )
+
 -- a status is at most 14
 pub status-small : (s : Sizes) (c : Call) (h : Heap) → step s c h .answer .status ≤ 14
 status-small s c h = go (step s c h .answer .status) refl
@@ -347,3 +384,6 @@ module _ (ws : List ℤ) (i : ℕ) (long : 4 * i + 4 ≤ length ws) where
 -- an answer written: status and value
 pub two-set : (as′ : List ℤ) (q : ℕ) {a b x y : ℤ} → a ≡ x → b ≡ y → set (set as′ q a) (q + 1) b ≡ set (set as′ q x) (q + 1) y
 two-set as′ q e f = rw (e, f)
+
+pub two-long : (as′ : List ℤ) (p q : ℕ) (x y : ℤ) → length (set (set as′ p x) q y) ≡ length as′
+two-long as′ p q x y = length-set (set as′ p x) q y ∙ length-set as′ p x

@@ -24,31 +24,31 @@ add-t31 c = let K = c .before .before .before .before .before .before .before .b
 
 -- src/lib.rt:288:1
 same-length : tie.Need-same-length
-same-length c = search needs
+same-length c = c .before .before .before .before .before .before .before .before .before .before .before .before .before .before .kinds .given
 
 -- src/lib.rt:288:1
 same-length-2 : tie.Need-same-length-2
-same-length-2 c = search needs
+same-length-2 c = c .before .before .before .before .before .before .before .before .before .before .before .before .values .given
 
 -- src/lib.rt:288:1
 same-length-3 : tie.Need-same-length-3
-same-length-3 c = search needs
+same-length-3 c = c .before .before .before .before .before .before .before .before .before .before .before .zct .given
 
 -- src/lib.rt:288:1
 same-length-4 : tie.Need-same-length-4
-same-length-4 c = search needs
+same-length-4 c = c .before .before .before .before .before .before .before .before .before .mrt .given
 
 -- src/lib.rt:288:1
 same-length-5 : tie.Need-same-length-5
-same-length-5 c = search needs
+same-length-5 c = c .before .before .before .before .before .before .before .counts .given
 
 -- src/lib.rt:288:1
 same-length-6 : tie.Need-same-length-6
-same-length-6 c = search needs
+same-length-6 c = c .before .before .before .before .before .log .given
 
 -- src/lib.rt:288:1
 same-length-7 : tie.Need-same-length-7
-same-length-7 c = search needs
+same-length-7 c = c .before .before .before .work .given
 
 -- src/lib.rt:288:1
 returns : tie.Need-returns

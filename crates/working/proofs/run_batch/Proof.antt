@@ -1,4 +1,5 @@
-use Rattle.working.proofs.Loop.{endable, batched}
+use mathlib.Core.Path.{_∙_}
+use Rattle.working.proofs.Loop.{runnable-at, endable-after, batched-after}
 use borrow.Author.Needs.{needs}
 use Rattle.working.proofs.run_batch.Statement.{statement}
 use Rattle.working.proofs.run_batch.Tie as tie
@@ -14,56 +15,53 @@ start-requires c κs = search needs
 
 -- src/lib.rt:376:9
 work-calls-requires : tie.Need-work-calls-requires
-work-calls-requires c κs = rw (c .before .before .before .before .before .before .before .before .before .start .ensures) (c .before .before .before .before .before .before .before .before .before .before .before .before .before .before .before .before .pre)
+work-calls-requires c κs = runnable-at (c .before .before .before .before .before .before .before .before .before .start .ensures) (c .before .before .before .before .before .before .before .before .before .before .before .before .before .before .before .before .pre)
 
 -- src/lib.rt:390:5
 end-batch-requires : tie.Need-end-batch-requires
 end-batch-requires c κs =
-    let K = c .before .before .before .before .before .before .before .before .before .before .before .before .before .before .before .before .before .before .before .before .before .before .before .before .before .before .before .before .before .before .before .before .before .before .before .before .before .before .before .before .pre in
     let W = c .before .before .before .before .before .before .before .before .before .before .before .before .before .before .before .before .before .before .before .before .before .before .before .work-calls .ensures in
-    endable (K .fine) (W .1 (K .list) (K .heap) (K .are) (rw (c .before .before .before .before .before .before .before .before .before .before .before .before .before .before .before .before .before .before .before .before .before .before .before .before .before .before .before .before .before .before .before .before .before .start .ensures) (K .standing))) (W .0)
+    endable-after (c .before .before .before .before .before .before .before .before .before .before .before .before .before .before .before .before .before .before .before .before .before .before .before .before .before .before .before .before .before .before .before .before .before .start .ensures) (c .before .before .before .before .before .before .before .before .before .before .before .before .before .before .before .before .before .before .before .before .before .before .before .before .before .before .before .before .before .before .before .before .before .before .before .before .before .before .before .before .pre) (W .1) (W .0)
 
 -- src/lib.rt:359:1
 same-length : tie.Need-same-length
-same-length c = let a = c .before .before .before .before .before .before .before .before .before .before .before .before .kinds2 .given in let b = c .before .before .before .before .before .before .before .before .before .before .before .before .before .before .before .before .before .before .before .before .before .before .before .before .before .before .before .before .before .before .before .before .before .before .before .before .kinds .given in search needs
+same-length c = c .before .before .before .before .before .before .before .before .before .before .before .before .kinds2 .given ∙ c .before .before .before .before .before .before .before .before .before .before .before .before .before .before .before .before .before .before .before .before .before .before .before .before .before .before .before .before .before .before .before .before .before .before .before .before .kinds .given
 
 -- src/lib.rt:359:1
 same-length-2 : tie.Need-same-length-2
-same-length-2 c = let a = c .before .before .before .before .before .before .before .before .before .before .values2 .given in let b = c .before .before .before .before .before .before .before .before .before .before .before .before .before .before .before .before .before .before .before .before .before .before .before .before .before .before .before .before .before .before .before .before .before .before .values .given in search needs
+same-length-2 c = c .before .before .before .before .before .before .before .before .before .before .values2 .given ∙ c .before .before .before .before .before .before .before .before .before .before .before .before .before .before .before .before .before .before .before .before .before .before .before .before .before .before .before .before .before .before .before .before .before .before .values .given
 
 -- src/lib.rt:359:1
 same-length-3 : tie.Need-same-length-3
-same-length-3 c = let b = c .before .before .before .before .before .before .before .before .before .before .before .before .before .before .before .before .before .before .before .before .before .before .before .before .before .before .before .before .before .before .before .before .before .variables .given in search needs
+same-length-3 c = c .before .before .before .before .before .before .before .before .before .before .before .before .before .before .before .before .before .before .before .before .before .before .before .before .before .before .before .before .before .before .before .before .before .variables .given
 
 -- src/lib.rt:359:1
 same-length-4 : tie.Need-same-length-4
-same-length-4 c = let a = c .before .before .before .before .before .before .before .before .before .zct2 .given in let b = c .before .before .before .before .before .before .before .before .before .before .before .before .before .before .before .before .before .before .before .before .before .before .before .before .before .before .before .before .before .before .before .before .zct .given in search needs
+same-length-4 c = c .before .before .before .before .before .before .before .before .before .zct2 .given ∙ c .before .before .before .before .before .before .before .before .before .before .before .before .before .before .before .before .before .before .before .before .before .before .before .before .before .before .before .before .before .before .before .before .zct .given
 
 -- src/lib.rt:359:1
 same-length-5 : tie.Need-same-length-5
-same-length-5 c = search needs
+same-length-5 c = c .before .before .before .before .before .before .before .mrt2 .given ∙ c .before .before .before .before .before .before .before .before .before .before .before .before .before .before .before .before .before .before .before .before .before .before .before .before .before .before .before .before .before .before .mrt .given
 
 -- src/lib.rt:359:1
 same-length-6 : tie.Need-same-length-6
-same-length-6 c = search needs
+same-length-6 c = c .before .before .before .before .before .counts2 .given ∙ c .before .before .before .before .before .before .before .before .before .before .before .before .before .before .before .before .before .before .before .before .before .before .before .before .before .before .before .before .counts .given
 
 -- src/lib.rt:359:1
 same-length-7 : tie.Need-same-length-7
-same-length-7 c = search needs
+same-length-7 c = c .before .before .before .log2 .given ∙ c .before .before .before .before .before .before .before .before .before .before .before .before .before .before .before .before .before .before .before .before .before .before .before .before .before .before .log .given
 
 -- src/lib.rt:359:1
 same-length-8 : tie.Need-same-length-8
-same-length-8 c = search needs
+same-length-8 c = c .before .work2 .given ∙ c .before .before .before .before .before .before .before .before .before .before .before .before .before .before .before .before .before .before .before .before .before .before .before .before .work .given
 
 -- src/lib.rt:359:1
 same-length-9 : tie.Need-same-length-9
-same-length-9 c = search needs
+same-length-9 c = c .before .before .before .before .before .before .before .before .before .before .before .before .before .before .before .before .before .before .before .before .before .before .answers .given
 
 -- src/lib.rt:359:1
 returns : tie.Need-returns
-returns c = λ ds h e S.
-    let R = c .before .before .before .before .before .before .before .before .before .before .before .before .before .before .before .before .before .before .before .before .before .before .before .before .before .before .before .before .before .before .before .before .before .before .before .before .before .work-calls .ensures .1 ds h e (rw (c .before .before .before .before .before .before .before .before .before .before .before .before .before .before .before .before .before .before .before .before .before .before .before .before .before .before .before .before .before .before .before .before .before .before .before .before .before .before .before .before .before .before .before .before .before .before .before .start .ensures) S) in
-    batched (c .before .before .before .before .before .before .before .before .before .before .before .before .before .before .before .before .before .before .before .before .before .before .before .before .before .before .before .before .before .before .before .before .before .before .before .before .before .before .before .before .before .before .before .before .before .before .before .before .before .before .before .before .before .before .pre .fine) R (c .before .before .before .before .before .before .before .before .before .before .before .before .before .end-batch .ensures _ (R .standing))
+returns c = batched-after (c .before .before .before .before .before .before .before .before .before .before .before .before .before .before .before .before .before .before .before .before .before .before .before .before .before .before .before .before .before .before .before .before .before .before .before .before .before .before .before .before .before .before .before .before .before .before .before .start .ensures) (c .before .before .before .before .before .before .before .before .before .before .before .before .before .before .before .before .before .before .before .before .before .before .before .before .before .before .before .before .before .before .before .before .before .before .before .before .before .before .before .before .before .before .before .before .before .before .before .before .before .before .before .before .before .before .pre) (c .before .before .before .before .before .before .before .before .before .before .before .before .before .before .before .before .before .before .before .before .before .before .before .before .before .before .before .before .before .before .before .before .before .before .before .before .before .work-calls .ensures .1) (c .before .before .before .before .before .before .before .before .before .before .before .before .before .end-batch .ensures)
 
 pub run-batch-spec : {M : Type 1} → statement M
 run-batch-spec =

@@ -26,35 +26,35 @@ enum-told c = search needs
 
 -- src/lib.rt:161:1
 same-length : tie.Need-same-length
-same-length c = search needs
+same-length c = c .before .before .before .before .before .before .before .before .before .before .before .before .before .kinds .given
 
 -- src/lib.rt:161:1
 same-length-2 : tie.Need-same-length-2
-same-length-2 c = search needs
+same-length-2 c = c .before .before .before .before .before .before .before .before .before .before .before .values .given
 
 -- src/lib.rt:161:1
 same-length-3 : tie.Need-same-length-3
-same-length-3 c = search needs
+same-length-3 c = c .before .before .before .before .before .before .before .before .before .before .variables .given
 
 -- src/lib.rt:161:1
 same-length-4 : tie.Need-same-length-4
-same-length-4 c = search needs
+same-length-4 c = c .before .before .before .before .before .before .before .before .before .zct .given
 
 -- src/lib.rt:161:1
 same-length-5 : tie.Need-same-length-5
-same-length-5 c = search needs
+same-length-5 c = c .before .before .before .before .before .before .before .mrt .given
 
 -- src/lib.rt:161:1
 same-length-6 : tie.Need-same-length-6
-same-length-6 c = search needs
+same-length-6 c = c .before .before .before .before .before .counts .given
 
 -- src/lib.rt:161:1
 same-length-7 : tie.Need-same-length-7
-same-length-7 c = search needs
+same-length-7 c = c .before .before .before .log .given
 
 -- src/lib.rt:161:1
 same-length-8 : tie.Need-same-length-8
-same-length-8 c = search needs
+same-length-8 c = c .before .work .given
 
 -- src/lib.rt:161:1
 returns : tie.Need-returns
