@@ -1,6 +1,6 @@
 -- The text of a script: its lines, and the fields of a line. Assumes nothing.
 use Prim.Native.Nat.{ℕ, _+_}
-use Prim.Native.String.{String, _∷_ as _∷ˢ_}
+use Prim.Native.String.{String, [] as []ˢ, _∷_ as _∷ˢ_}
 use Prim.Native.Char.{code}
 use mathlib.Core.Bool.{Bool, true, false, cond, _&&_}
 use mathlib.Core.List.{List, [], _∷_}
