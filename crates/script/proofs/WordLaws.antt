@@ -3,7 +3,7 @@ use Prim.Native.Nat.{ℕ, zero, suc, _<_, _^_}
 use mathlib.Core.Path.{_≡_, refl, sym, ap, _∙_}
 use mathlib.Core.Bool.{Bool, true, false, _&&_}
 use mathlib.Core.Logic.{inl, inr}
-use mathlib.Core.List.{[], _∷_}
+use mathlib.Core.List.{List, [], _∷_}
 use native.Mathlib.Omega.{arith}
 use lib.Dec.{T, ltb}
 use borrow.Author.Tests.{ltb-true, lt-ltb, le-ltb, ne-eqb}
@@ -15,7 +15,8 @@ use mir.Facts.{toZ-ofZ, toZ-pos}
 use types.Run.{OneOf}
 use Rattle.rules.specs.declared.Call.{Call}
 use Rattle.rules.specs.Call.{callOf, given, isBelow, isNought, isSigned32}
-use Rattle.script.specs.Line.{isCall}
+use Rattle.script.specs.Text.{sameBytes}
+use Rattle.script.specs.Line.{wordIn, isCall}
 
 -- ---- a limit
 
@@ -93,3 +94,20 @@ module _ (m op : ℕ) (a b c : ℤ) where
   unfolding callOf
   call-none p q r s t u =
       rw (ne-eqb op 1 (λ e. p (inl e)), ne-eqb op 2 (λ e. q (inl e)), ne-eqb op 3 (λ e. p (inr e)), ne-eqb op 4 (λ e. r (inl e)), ne-eqb op 5 s, ne-eqb op 6 (λ e. t (inl e)), ne-eqb op 7 (λ e. r (inr e)), ne-eqb op 8 (λ e. t (inr e)), ne-eqb op 9 (λ e. q (inr e)), ne-eqb op 10 u)
+
+-- ---- which operation word it is, by the tests of the code in their order
+
+-- it is this one
+pub word-here : (k : ℕ) (w : List ℕ) (ws : List (List ℕ)) (bs : List ℕ) {t : Bool} → t ≡ sameBytes bs w → t ≡ true → k ≡ wordIn k (w ∷ ws) bs
+unfolding wordIn
+word-here k w ws bs e h = rw (sym e ∙ h)
+
+-- it is not this one
+pub word-on : (k : ℕ) (w : List ℕ) (ws : List (List ℕ)) (bs : List ℕ) {t : Bool} {r : ℕ} → t ≡ sameBytes bs w → t ≡ false → r ≡ wordIn (suc k) ws bs → r ≡ wordIn k (w ∷ ws) bs
+unfolding wordIn
+word-on k w ws bs e h q = rw (sym e ∙ h) q
+
+-- it is none
+pub word-none : (k : ℕ) (bs : List ℕ) → 0 ≡ wordIn k [] bs
+unfolding wordIn
+word-none k bs = refl
