@@ -1,15 +1,18 @@
 -- The three entry points: what each refusal leaves, and what an accepted call comes to. Assumes nothing.
 use Prim.Native.Nat.{ℕ, zero, suc, _+_, _*_, _/_, _≤_, _<_}
 use mathlib.Core.Path.{_≡_, refl, sym, ap, _∙_, subst}
+use mathlib.Core.Bool.{Bool, true, false, not}
 use mathlib.Core.Option.{Option, none, some}
 use mathlib.Core.List.{List}
 use native.Mathlib.Omega.{arith}
+use borrow.Author.Tests.{not-true, not-false}
 use lib.IntN.{ℤ}
 use lib.ListN.{length, replicate, length-replicate}
 use Rattle.rules.specs.declared.Head.{Head}
 use Rattle.rules.specs.declared.Call.{Call}
 use Rattle.rules.specs.declared.Outcome.{Outcome}
-use Rattle.rules.specs.Head.{Limits, Sizes, sizesOf, freshHead, zeroHead}
+use Rattle.rules.specs.Head.{Limits, Says, Sizes, sizesOf, freshHead, zeroHead}
+use Rattle.rules.specs.Settle.{Heap}
 use Rattle.rules.specs.Call.{callsIn}
 use Rattle.rules.specs.Step.{calls, batch, fresh}
 use Rattle.rules.specs.Rows.{Lent, lent, rowsOf, headOf, heapOf}
@@ -21,13 +24,10 @@ use Rattle.rules.proofs.Demands.{demand-1, demand-2}
 use Rattle.rules.proofs.Demand1.{fresh-refused, fresh-accepted}
 use Rattle.rules.proofs.Entry.{entry-ended}
 use Rattle.rules.proofs.Whole.{whole-at}
+use Rattle.cells.specs.Fresh.{Fitting}
+use Rattle.words.specs.Words.{Calls, Decides}
 use Rattle.words.proofs.Listing.{listed}
 use Rattle.working.specs.Working.{Standing, Runnable, Batched as Done, startOf}
-
--- what the first check found out
-pub sized-is : {h : Head} {ks : List ℕ} {xs vs : List ℤ} {zs ms cs log work : List ℕ}
-    → Limits h × Lengths h (length ks) (length xs) (length vs) (length zs) (length ms) (length cs) (length log) (length work) → Sized h (lent ks xs vs zs ms cs log work)
-sized-is z = record { limits = z .0; lengths = z .1 }
 
 -- ---- refusals
 
@@ -43,12 +43,6 @@ module _ {h : Head} {r : Lent} (ws row : List ℤ) where
 
   pub left-4 : Sized h r → (ds : List Call) → callsIn (h .m) ws ≡ some ds → 2 * length ds ≤ length row → (Sound h r → ⊥) → leavesWith (outcome 4 h 0) (cleared h r) row ≡ batchOf h r ws row
   left-4 z ds e l u = let d = demand-1 .refused-4 h r ws row in sym (d .left (d .when (z, record { calls = ds; decoded = e; room = l }, u)))
-
--- 4, with the work row that the check left
-pub left-4-work : {h : Head} (ks : List ℕ) (xs vs : List ℤ) (zs ms cs log work : List ℕ) {work′ : List ℕ} (ws row : List ℤ) → work′ ≡ replicate (h .n) 0
-    → Sized h (lent ks xs vs zs ms cs log work) → (ds : List Call) → callsIn (h .m) ws ≡ some ds → 2 * length ds ≤ length row → (Sound h (lent ks xs vs zs ms cs log work) → ⊥)
-    → leavesWith (outcome 4 h 0) (lent ks xs vs zs ms cs log work′) row ≡ batchOf h (lent ks xs vs zs ms cs log work) ws row
-left-4-work ks xs vs zs ms cs log work ws row z Z ds e l u = rw z (left-4 ws row Z ds e l u)
 
 -- the answers row has room, or has none, by half the words
 pub room-of : (m : ℕ) (ws row : List ℤ) (ds : List Call) → callsIn m ws ≡ some ds → length ws / 2 ≤ length row → 2 * length ds ≤ length row
@@ -91,6 +85,49 @@ module _ {h : Head} {r : Lent} (ws row : List ℤ) (Z : Sized h r) (S : Sound h 
       let b = demand-2 .by-the-rules h r ws row ds e (demand-1 .accepted-else h r ws row Z c S) in
       rw (b, D .rows, D .is, D .answers)
 
+-- ---- a batch, from what each check of the code says of the rows
+
+module _ {h : Head} {ks : List ℕ} {xs vs : List ℤ} {zs ms cs log work : List ℕ}
+    {fits : Bool} (sizes : Says fits (Limits h × Lengths h (length ks) (length xs) (length vs) (length zs) (length ms) (length cs) (length log) (length work))) where
+  pub refused-1 : (ws row : List ℤ) {o : Outcome} → not fits ≡ true → o ≡ outcome 1 h 0
+      → leavesWith o (lent ks xs vs zs ms cs log work) row ≡ batchOf h (lent ks xs vs zs ms cs log work) ws row
+  refused-1 ws row t e = rw e (left-1 ws row (λ z. sizes .no (not-true fits t) (z .limits, z .lengths)))
+
+  pub is-sized : not fits ≡ false → Sized h (lent ks xs vs zs ms cs log work)
+  is-sized t = let z = sizes .yes (not-false fits t) in record { limits = z .0; lengths = z .1 }
+
+module _ {h : Head} {r : Lent} (ws row : List ℤ) (Z : Sized h r) {right : Bool} (words : Decides right (h .m) ws) where
+  pub refused-2 : {o : Outcome} → not right ≡ true → o ≡ outcome 2 h 0 → leavesWith o r row ≡ batchOf h r ws row
+  refused-2 t e = rw e (left-2 ws row Z (words .no (not-true right t)))
+
+  module _ (known : not right ≡ false) where
+    all : Calls (h .m) ws
+    all = words .yes (not-false right known)
+
+    pub refused-3 : {o : Outcome} → length row < length ws / 2 → o ≡ outcome 3 h 0 → leavesWith o r row ≡ batchOf h r ws row
+    refused-3 l e = rw e (left-3 ws row Z (all .list) (all .are) (short-of (h .m) ws row (all .list) (all .are) l))
+
+    module _ (long : length ws / 2 ≤ length row) {good : Bool} {work : List ℕ} (audited : Says good (Sound h r) × (work ≡ replicate (h .n) 0)) where
+      room : 2 * length (all .list) ≤ length row
+      room = room-of (h .m) ws row (all .list) (all .are) long
+
+      pub refused-4 : {o : Outcome} → not good ≡ true → o ≡ outcome 4 h 0 → leavesWith o (lent (r .kinds) (r .values) (r .variables) (r .zct) (r .mrt) (r .counts) (r .log) work) row ≡ batchOf h r ws row
+      refused-4 t e = rw (e, audited .1) (left-4 ws row Z (all .list) (all .are) room (audited .0 .no (not-true good t)))
+
+      module _ (sound : not good ≡ false) where
+        is-sound : Sound h r
+        is-sound = audited .0 .yes (not-false good sound)
+
+        pub runnable-by : Runnable (sizesOf h) ws (r .kinds) (r .values) (r .variables) (r .zct) (r .mrt) (r .counts) (r .log) work row (startOf h)
+        runnable-by = runnable ws row Z is-sound (all .are) room (audited .1)
+
+        pub accepted-by : {q : Lent} {bs : List ℤ} {o : Outcome}
+            → ((ds : List Call) (g : Heap) → callsIn (h .m) ws ≡ some ds → Standing (sizesOf h) (r .kinds) (r .values) (r .variables) (r .zct) (r .mrt) (r .counts) (r .log) work (startOf h) g → Done (sizesOf h) ds g q row bs o)
+            → leavesWith o q bs ≡ batchOf h r ws row
+        accepted-by runs =
+            accepted-as ws row Z is-sound (all .are) room (audited .1)
+            (runs (all .list) (heapOf h r) (all .are) (start-standing ws row Z is-sound (all .are) room (audited .1)))
+
 -- ---- fresh
 
 module _ {n m l cap : ℕ} {r : Lent} where
@@ -100,3 +137,33 @@ module _ {n m l cap : ℕ} {r : Lent} where
   pub fresh-yes : {q : Lent} → Sized (freshHead n m l cap) r → q ≡ rowsOf (sizesOf (freshHead n m l cap)) (fresh (sizesOf (freshHead n m l cap)))
       → leaves (outcome 0 (freshHead n m l cap) 0) q ≡ freshOf n m l cap r
   fresh-yes z e = rw e (sym (fresh-accepted n m l cap r z))
+
+-- from what the check of the code says of the rows, for a head g that was made
+module _ {n m l cap : ℕ} {g : Head} (made : g ≡ freshHead n m l cap) {ks : List ℕ} {xs vs : List ℤ} {zs ms cs log work : List ℕ}
+    {fits : Bool} (sizes : Says fits (Limits g × Lengths g (length ks) (length xs) (length vs) (length zs) (length ms) (length cs) (length log) (length work))) where
+  pub no-fresh : {z : Head} {o : Outcome} → not fits ≡ true → z ≡ zeroHead → o ≡ outcome 1 z 0 → leaves o (lent ks xs vs zs ms cs log work) ≡ freshOf n m l cap (lent ks xs vs zs ms cs log work)
+  no-fresh t e d = rw (d, e) (fresh-no (λ z. sizes .no (not-true fits t) (rw made (z .limits, z .lengths))))
+
+  pub fresh-sized : not fits ≡ false → Sized (freshHead n m l cap) (lent ks xs vs zs ms cs log work)
+  fresh-sized t = subst (λ (k : Head). Sized k (lent ks xs vs zs ms cs log work)) made (is-sized sizes t)
+
+pub fitting : {n m l cap v k : ℕ} {g : Head} {ks : List ℕ} {xs : List ℤ} {zs ms cs work : List ℕ} {fits : Bool} → g ≡ freshHead n m l cap
+    → Says fits (Limits g × Lengths g (length ks) (length xs) v (length zs) (length ms) (length cs) k (length work)) → not fits ≡ false → Fitting n ks xs zs ms cs work
+fitting {fits = fits} e sizes t =
+    let z = rw e at (sizes .yes (not-false fits t)) in
+    let d = z .1 in
+    record {
+      most = z .0 .n-most;
+      kinds-long = d .for-kinds;
+      values-long = d .for-values;
+      zct-long = d .for-zct;
+      mrt-long = d .for-mrt;
+      counts-long = d .for-counts;
+      work-long = d .for-work;
+    }
+
+module _ {n m l cap : ℕ} {ks : List ℕ} {xs vs : List ℤ} {zs ms cs log work : List ℕ} (Z : Sized (freshHead n m l cap) (lent ks xs vs zs ms cs log work)) where
+  pub made-fresh : {g : Head} {q : Lent} {o : Outcome} → g ≡ freshHead n m l cap
+      → ((s : Sizes) → s .n ≡ n → s .m ≡ length vs → 2 * s .l ≡ length log → q ≡ rowsOf s (fresh s)) → o ≡ outcome 0 g 0 → leaves o q ≡ freshOf n m l cap (lent ks xs vs zs ms cs log work)
+  made-fresh e written d =
+      rw (d, e) (fresh-yes Z (written (sizesOf (freshHead n m l cap)) refl (sym (Z .lengths .for-variables)) (sym (Z .lengths .for-log))))

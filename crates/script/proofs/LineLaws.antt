@@ -39,6 +39,23 @@ pub word-figure : (k i : ℕ) (fs : List (List ℕ)) → i ≤ arity k → k ≡
 unfolding wordOf
 word-figure k i fs h e d = rw (le-leb i (arity k) h, eq-eqb k 5 e, eq-eqb i 3 d)
 
+-- ---- which operation word it is, by the tests of the code in their order
+
+-- it is this one
+pub word-here : (k : ℕ) (w : List ℕ) (ws : List (List ℕ)) (bs : List ℕ) {t : Bool} → t ≡ sameBytes bs w → t ≡ true → k ≡ wordIn k (w ∷ ws) bs
+unfolding wordIn
+word-here k w ws bs e h = rw (sym e ∙ h)
+
+-- it is not this one
+pub word-on : (k : ℕ) (w : List ℕ) (ws : List (List ℕ)) (bs : List ℕ) {t : Bool} {r : ℕ} → t ≡ sameBytes bs w → t ≡ false → r ≡ wordIn (suc k) ws bs → r ≡ wordIn k (w ∷ ws) bs
+unfolding wordIn
+word-on k w ws bs e h q = rw (sym e ∙ h) q
+
+-- it is none
+pub word-past : (k : ℕ) (bs : List ℕ) → 0 ≡ wordIn k [] bs
+unfolding wordIn
+word-past k bs = refl
+
 wordIn-most : (k : ℕ) (ws : List (List ℕ)) (bs : List ℕ) → wordIn k ws bs ≤ k + length ws
 unfolding wordIn
 wordIn-most k [] bs = omega arith

@@ -1,18 +1,19 @@
 -- Laws of a settle on all rows, and how a caller meets and uses its contract. Assumes nothing.
 use mathlib.Core.Path.{_≡_, ap, _∙_}
 use mathlib.Core.Bool.{Bool, true, false}
-use mathlib.Core.Option.{Option}
-use mathlib.Core.List.{List}
-use Prim.Native.Nat.{ℕ, _+_}
+use mathlib.Core.Option.{Option, none, some}
+use mathlib.Core.List.{List, [], map}
+use Prim.Native.Nat.{ℕ, zero, suc, _+_}
 use native.Mathlib.Omega.{arith}
 use lib.ListN.{length, replicate, length-replicate}
 use lib.IntN.{ℤ}
 use Rattle.rules.specs.declared.Used.{Used}
 use Rattle.rules.specs.Head.{Sizes}
-use Rattle.rules.specs.Rules.{replay}
-use Rattle.rules.specs.Settle.{Heap, reclaim, replayed, settledBy, settled}
+use Rattle.rules.specs.Field.{variableOf}
+use Rattle.rules.specs.Rules.{Tables, Transaction, replay}
+use Rattle.rules.specs.Settle.{Heap, pick, freeCell, reclaim, replayed, settledBy, settled}
 use Rattle.rules.specs.Step.{settledIf}
-use Rattle.rules.specs.Rows.{Ready, Rows, Whole}
+use Rattle.rules.specs.Rows.{Ready, Rows, Logged, Whole}
 use Rattle.rules.proofs.Step.{settledBy-log, settledBy-variables}
 use Rattle.cells.specs.Marks.{Marks}
 use Rattle.cells.proofs.Logging.{logged-none}
@@ -61,6 +62,26 @@ settled-as {n} {cap} {log′ = log′} {work′ = work′} s hs h l m en ec em W
       log-zero = el;
       work-zero = w;
     }
+
+-- a settle from what its parts say of the rows: the replay and the marking, then the reclaiming and the clearing
+module _ {cap : ℕ} {ks : List ℕ} {xs vs : List ℤ} {zs ms cs log work zs′ ms′ cs′ work′ : List ℕ} {len free : ℕ} {u u′ : Used}
+    (replays : (n : ℕ) (ts : List Transaction) (t : Tables) → Logged n log len ts → Ready n cap zs ms cs u t → Ready n cap zs′ ms′ cs′ u′ (replay cap ts t))
+    (marks : (hs : List (Option ℕ)) → vs ≡ map variableOf hs → Marks (length work) work′ hs) where
+  pub reclaimable-by : {n : ℕ} → Settleable n cap ks xs vs zs ms cs log work len free u → Reclaimable (length zs′) cap ks xs zs′ ms′ cs′ work′ free u′
+  reclaimable-by {n} S =
+      let W = S .whole in
+      let h = S .heap in
+      reclaimable (replayed-rows (W .rows) (replays n (h .log) (h .tables) (W .logged) (W .rows .ready))) (marks-as (W .work-long) (marks (S .holds) (S .counted)))
+
+  module _ {ks″ : List ℕ} {xs″ : List ℤ} {zs″ ms″ cs″ log″ work″ : List ℕ} {r : Reclaimed}
+      (reclaims : (n : ℕ) (hs : List (Option ℕ)) (h : Heap) → Rows n cap ks xs zs′ ms′ cs′ free u′ h → Marks n work′ hs → Done n cap hs (length work′) ks″ xs″ zs″ ms″ cs″ r h)
+      (log-clear : log″ ≡ replicate (length log) 0) (work-clear : work″ ≡ replicate (length work′) 0) where
+    pub settled-by : (s : Sizes) (n : ℕ) (own : List ℤ) (hs : List (Option ℕ)) (h : Heap) → s .n ≡ n → s .cap ≡ cap → Whole n cap ks xs own zs ms cs log work len free u h
+        → vs ≡ map variableOf hs → Settled s n cap hs ks″ xs″ own zs″ ms″ cs″ log″ work″ (length log) r h
+    settled-by s n own hs h en ec W e =
+        let M = marks-as (W .work-long) (marks hs e) in
+        let R = replayed-rows (W .rows) (replays n (h .log) (h .tables) (W .logged) (W .rows .ready)) in
+        settled-as s hs h (length log) (length work′) en ec (M .long) W (reclaims n hs (replayed cap h) R M) log-clear work-clear
 
 -- where the holds that were counted are the heap's own variables, that is `settled`
 module _ {s : Sizes} {n cap : ℕ} {ks : List ℕ} {xs vs : List ℤ} {zs ms cs log work : List ℕ} {l : ℕ} {r : Reclaimed} {h : Heap}

@@ -54,7 +54,7 @@ release-requires c κs = let y = c .before .before .before in
     let R = s .pre .0 .rows in
     let X = read-inside (R .cells) (x .field-at .result) _ (x .field-at .ensures) in
     let Y = read-inside (R .cells) (y .field-at2 .result) _ (y .field-at2 .ensures) in
-    (tabled (R .ready) (R .bounds), (s .pre .1, search needs))
+    (tabled (R .ready) (R .bounds), (s .pre .1, (X, Y)))
 
 free-cell-requires : tie.Need-free-cell-requires
 free-cell-requires c κs = let s = c .before .before .before .before .before .before .before .before .before .before .before .before .before .before .before .before .before .before .before .before .before .before .before .before in
@@ -66,31 +66,29 @@ lower-to-requires c κs = let y = c .before .before .before .before .before .bef
     let x = y .before .before .before in
     let R = x .before .before .before .before .before .before .before .before .before .pre .0 .rows in
     let X = inside-more (x .field-at .result) (R .bounds .most) (read-inside (R .cells) (x .field-at .result) _ (x .field-at .ensures)) in
-    let Y = inside-more (y .field-at2 .result) (R .bounds .most) (read-inside (R .cells) (y .field-at2 .result) _ (y .field-at2 .ensures)) in
-    search needs
+    X
 
 lower-to-requires-2 : tie.Need-lower-to-requires-2
 lower-to-requires-2 c κs = let y = c .before .before .before .before .before .before .before .before .before .before .before .before .before .before .before .before .before in
     let x = y .before .before .before in
     let R = x .before .before .before .before .before .before .before .before .before .pre .0 .rows in
-    let X = inside-more (x .field-at .result) (R .bounds .most) (read-inside (R .cells) (x .field-at .result) _ (x .field-at .ensures)) in
     let Y = inside-more (y .field-at2 .result) (R .bounds .most) (read-inside (R .cells) (y .field-at2 .result) _ (y .field-at2 .ensures)) in
-    search needs
+    Y
 
 same-length : tie.Need-same-length
-same-length c = search needs
+same-length c = c .before .before .before .before .kinds .given
 
 same-length-2 : tie.Need-same-length-2
-same-length-2 c = search needs
+same-length-2 c = c .before .before .values .given
 
 same-length-3 : tie.Need-same-length-3
-same-length-3 c = search needs
+same-length-3 c = c .before .before .before .before .before .before .before .before .before .before .before .before .before .zct .given
 
 same-length-4 : tie.Need-same-length-4
-same-length-4 c = search needs
+same-length-4 c = c .before .before .before .before .before .before .before .before .before .before .before .mrt .given
 
 same-length-5 : tie.Need-same-length-5
-same-length-5 c = search needs
+same-length-5 c = c .before .before .before .before .before .before .before .before .before .counts .given
 
 returns : tie.Need-returns
 returns c = let b = c .before .before .before .before .before in

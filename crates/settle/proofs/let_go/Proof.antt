@@ -38,13 +38,13 @@ unfolding drops replay
 returns-2 c = λ n t R. rw (c .enum-told2 .given .1) R
 
 same-length : tie.Need-same-length
-same-length c = search needs
+same-length c = c .before .before .before .before .before .zct .given
 
 same-length-2 : tie.Need-same-length-2
-same-length-2 c = search needs
+same-length-2 c = c .before .before .before .mrt .given
 
 same-length-3 : tie.Need-same-length-3
-same-length-3 c = search needs
+same-length-3 c = c .before .counts .given
 
 returns-3 : tie.Need-returns-3
 returns-3 c = let d = c .before .before .before .before .before .before in

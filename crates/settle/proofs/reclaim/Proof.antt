@@ -42,7 +42,7 @@ unheld-requires c κs = let l = c .before .before .before in
     scan (l .loop .inv .1 _ _ (S .heap) (S .rows) (S .marks)) (S .marks)
 
 left-at-requires : tie.Need-left-at-requires Inv-loop μ-loop
-left-at-requires c κs = search needs
+left-at-requires c κs = tt
 
 same-length : tie.Need-same-length Inv-loop μ-loop
 same-length c = let l = c .before .before .before .before .before .before in
@@ -95,7 +95,7 @@ loop-again c = let f = c .before .before .before .before .before .before .before
     )
 
 left-at-requires-2 : tie.Need-left-at-requires-2 Inv-loop μ-loop
-left-at-requires-2 c κs = search needs
+left-at-requires-2 c κs = tt
 
 same-length-6 : tie.Need-same-length-6 Inv-loop μ-loop
 same-length-6 c = let l = c .before .before in

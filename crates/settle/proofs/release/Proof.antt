@@ -1,5 +1,5 @@
 -- `settle::release` meets its contract: out of ZCT, then both fields let go in their order. Assumes nothing.
-use mathlib.Core.Path.{sym}
+use mathlib.Core.Path.{sym, _∙_}
 use Rattle.rules.proofs.Reclaim.{replay-append}
 use Rattle.tables.proofs.Single.{is-padded}
 use Rattle.tables.proofs.Steps.{left, tabled}
@@ -18,8 +18,7 @@ let-go-requires c κs = let k = c .before .before .before .before .before .cut-a
     let T = s .pre .0 in
     let R = left (T .bounds .big) (T .ready) (s .pre .1 .0) (k .ensures .0) (k .ensures .1) in
     let X = inside-as (s .args .x) (sym (R .are .zct-is .long)) (s .pre .1 .1 .0) in
-    let Y = inside-as (s .args .y) (sym (R .are .zct-is .long)) (s .pre .1 .1 .1) in
-    (tabled R (T .bounds), search needs)
+    (tabled R (T .bounds), X)
 
 let-go-requires-2 : tie.Need-let-go-requires-2
 let-go-requires-2 c κs = let g = c .before .before .before .before .before .before .before .before .before in
@@ -27,18 +26,17 @@ let-go-requires-2 c κs = let g = c .before .before .before .before .before .bef
     let s = g .before .before .before .before .before .before .before .before .before .before .before in
     let T = s .pre .0 in
     let R = g .let-go .ensures _ _ (left (T .bounds .big) (T .ready) (s .pre .1 .0) (k .ensures .0) (k .ensures .1)) in
-    let X = inside-as (s .args .x) (sym (R .are .zct-is .long)) (s .pre .1 .1 .0) in
     let Y = inside-as (s .args .y) (sym (R .are .zct-is .long)) (s .pre .1 .1 .1) in
-    (tabled R (T .bounds), search needs)
+    (tabled R (T .bounds), Y)
 
 same-length : tie.Need-same-length
-same-length c = search needs
+same-length c = c .before .before .before .before .before .zct3 .given ∙ c .before .before .before .before .before .before .before .before .before .before .before .before .before .before .before .zct2 .given ∙ c .before .before .before .before .before .before .before .before .before .before .before .before .before .before .before .before .before .before .before .before .before .zct .given
 
 same-length-2 : tie.Need-same-length-2
-same-length-2 c = search needs
+same-length-2 c = c .before .before .before .mrt2 .given ∙ c .before .before .before .before .before .before .before .before .before .before .before .before .before .mrt .given
 
 same-length-3 : tie.Need-same-length-3
-same-length-3 c = search needs
+same-length-3 c = c .before .counts2 .given ∙ c .before .before .before .before .before .before .before .before .before .before .before .counts .given
 
 returns : tie.Need-returns
 returns c = let d = c .before .before .before .before .before .before in

@@ -13,7 +13,7 @@ allocate-requires c κs = let s = c .before .before .before .before .before in
     (zct-listed (s .pre .0 .ready), s .pre .1)
 
 same-length : tie.Need-same-length
-same-length c = search needs
+same-length c = c .before .zct .given
 
 returns : tie.Need-returns
 returns c = let a = c .before .before in
@@ -25,13 +25,13 @@ create-requires : tie.Need-create-requires
 create-requires c κs = search needs
 
 same-length-2 : tie.Need-same-length-2
-same-length-2 c = search needs
+same-length-2 c = c .before .before .before .before .before .zct2 .given
 
 same-length-3 : tie.Need-same-length-3
-same-length-3 c = search needs
+same-length-3 c = c .before .before .before .mrt .given
 
 same-length-4 : tie.Need-same-length-4
-same-length-4 c = search needs
+same-length-4 c = c .before .counts .given
 
 returns-2 : tie.Need-returns-2
 returns-2 c = let a = c .before .before .before .before .before .before in
@@ -43,13 +43,13 @@ destroy-requires : tie.Need-destroy-requires
 destroy-requires c κs = search needs
 
 same-length-5 : tie.Need-same-length-5
-same-length-5 c = search needs
+same-length-5 c = c .before .before .before .before .before .zct3 .given
 
 same-length-6 : tie.Need-same-length-6
-same-length-6 c = search needs
+same-length-6 c = c .before .before .before .mrt2 .given
 
 same-length-7 : tie.Need-same-length-7
-same-length-7 c = search needs
+same-length-7 c = c .before .counts2 .given
 
 returns-3 : tie.Need-returns-3
 returns-3 c = let a = c .before .before .before .before .before .before in

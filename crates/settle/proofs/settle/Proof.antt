@@ -1,6 +1,7 @@
 -- `settle::settle` meets its contract: replay, clear, mark, reclaim, clear. Assumes nothing.
+use mathlib.Core.Path.{_∙_}
 use Rattle.settle.proofs.Replaying.{replayable}
-use Rattle.settle.proofs.Settling.{replayed-rows, marks-as, reclaimable, settled-as}
+use Rattle.settle.proofs.Settling.{reclaimable-by, settled-by}
 use borrow.Author.Needs.{needs}
 use Rattle.settle.proofs.settle.Statement.{statement}
 use Rattle.settle.proofs.settle.Tie as tie
@@ -10,54 +11,40 @@ replay-requires c κs = let W = c .before .before .before .before .before .befor
     replayable (W .rows .bounds) (W .rows .ready) (W .logged)
 
 clear-requires : tie.Need-clear-requires
-clear-requires c κs = search needs
+clear-requires c κs = tt
 
 mark-held-requires : tie.Need-mark-held-requires
-mark-held-requires c κs = search needs
+mark-held-requires c κs = tt
 
 reclaim-requires : tie.Need-reclaim-requires
-reclaim-requires c κs = let k = c .before .before .before .before .before .before .before .before in
-    let p = k .before .before .before .before .before .before .before .before .before .before .before .before in
-    let S = p .before .before .before .before .before .before .before .before .before .before .before .pre in
-    let W = S .whole in
-    let n = W .work-long in
-    reclaimable (replayed-rows (W .rows) (p .replay .ensures _ _ _ (W .logged) (W .rows .ready))) (marks-as (search needs) (k .mark-held .ensures (S .holds) (S .counted)))
+reclaim-requires c κs = let p = c .before .before .before .before .before .before .before .before .before .before .before .before .before .before .before .before .before .before .before .before in reclaimable-by (p .replay .ensures) (c .before .before .before .before .before .before .before .before .mark-held .ensures) (p .before .before .before .before .before .before .before .before .before .before .before .pre)
 
 clear-requires-2 : tie.Need-clear-requires-2
-clear-requires-2 c κs = search needs
+clear-requires-2 c κs = tt
 
 same-length : tie.Need-same-length
-same-length c = search needs
+same-length c = c .before .before .before .before .before .before .before .before .before .before .before .before .kinds .given
 
 same-length-2 : tie.Need-same-length-2
-same-length-2 c = search needs
+same-length-2 c = c .before .before .before .before .before .before .before .before .before .before .values .given
 
 same-length-3 : tie.Need-same-length-3
-same-length-3 c = search needs
+same-length-3 c = c .before .before .before .before .before .before .before .before .before .zct2 .given ∙ c .before .before .before .before .before .before .before .before .before .before .before .before .before .before .before .before .before .before .before .before .before .before .before .before .before .before .before .before .before .before .before .before .before .zct .given
 
 same-length-4 : tie.Need-same-length-4
-same-length-4 c = search needs
+same-length-4 c = c .before .before .before .before .before .before .before .mrt2 .given ∙ c .before .before .before .before .before .before .before .before .before .before .before .before .before .before .before .before .before .before .before .before .before .before .before .before .before .before .before .before .before .before .before .mrt .given
 
 same-length-5 : tie.Need-same-length-5
-same-length-5 c = search needs
+same-length-5 c = c .before .before .before .before .before .counts2 .given ∙ c .before .before .before .before .before .before .before .before .before .before .before .before .before .before .before .before .before .before .before .before .before .before .before .before .before .before .before .before .before .counts .given
 
 same-length-6 : tie.Need-same-length-6
-same-length-6 c = search needs
+same-length-6 c = c .before .before .before .before .before .before .before .before .before .before .before .before .before .before .before .before .before .before .before .before .before .before .before .before .before .log .given
 
 same-length-7 : tie.Need-same-length-7
-same-length-7 c = search needs
+same-length-7 c = c .before .work2 .given ∙ c .before .before .before .before .before .before .before .before .before .before .before .before .before .before .before .before .before .before .before .before .before .work .given
 
 returns : tie.Need-returns
-returns c = let z = c .before .before in
-    let r = z .before .before .before .before .before .before .before .before .before .before .before in
-    let k = r .before .before .before .before .before .before .before .before .before in
-    let l = k .before .before .before .before in
-    let p = l .before .before .before .before .before .before .before .before in
-    λ s n own hs h en ec W e.
-    let w = W .work-long in
-    let M = marks-as {n = n} (search needs) (k .mark-held .ensures hs e) in
-    let R = replayed-rows (W .rows) (p .replay .ensures n _ _ (W .logged) (W .rows .ready)) in
-    settled-as s hs h _ _ en ec (M .long) W (r .reclaim .ensures n hs _ R M) (l .clear .ensures) (z .clear2 .ensures)
+returns c = settled-by (c .before .before .before .before .before .before .before .before .before .before .before .before .before .before .before .before .before .before .before .before .before .before .before .before .before .before .before .before .before .before .before .before .before .before .replay .ensures) (c .before .before .before .before .before .before .before .before .before .before .before .before .before .before .before .before .before .before .before .before .before .before .mark-held .ensures) (c .before .before .before .before .before .before .before .before .before .before .before .before .before .reclaim .ensures) (c .before .before .before .before .before .before .before .before .before .before .before .before .before .before .before .before .before .before .before .before .before .before .before .before .before .before .clear .ensures) (c .before .before .clear2 .ensures)
 
 pub settle-spec : {M : Type 1} → statement M
 settle-spec =

@@ -11,7 +11,7 @@ use Rattle.working.proofs.work_calls.Reads as work-calls-reads
 
 -- src/lib.rt:375:9
 start-requires : tie.Need-start-requires
-start-requires c κs = search needs
+start-requires c κs = tt
 
 -- src/lib.rt:376:9
 work-calls-requires : tie.Need-work-calls-requires
