@@ -1,8 +1,8 @@
 -- The three entry points: what each refusal leaves, and what an accepted call comes to. Assumes nothing.
-use Prim.Native.Nat.{ℕ, zero, suc, _+_, _*_, _/_, _≤_, _<_}
+use Prim.Native.Nat.{ℕ, _*_, _/_, _≤_, _<_}
 use mathlib.Core.Path.{_≡_, refl, sym, ap, _∙_, subst}
 use mathlib.Core.Bool.{Bool, true, false, not}
-use mathlib.Core.Option.{Option, none, some}
+use mathlib.Core.Option.{none, some}
 use mathlib.Core.List.{List}
 use native.Mathlib.Omega.{arith}
 use borrow.Author.Tests.{not-true, not-false}
@@ -15,11 +15,11 @@ use Rattle.rules.specs.Head.{Limits, Says, Sizes, sizesOf, freshHead, zeroHead}
 use Rattle.rules.specs.Settle.{Heap}
 use Rattle.rules.specs.Call.{callsIn}
 use Rattle.rules.specs.Step.{calls, batch, fresh}
-use Rattle.rules.specs.Rows.{Lent, lent, rowsOf, headOf, heapOf}
+use Rattle.rules.specs.Rows.{Lent, lent, rowsOf, heapOf}
 use Rattle.rules.specs.Sound.{Sound, Sized, Lengths}
-use Rattle.rules.specs.Refusals.{Batched, outcome, leaves, leavesWith, cleared, answered, accepted, freshOf, batchOf}
+use Rattle.rules.specs.Refusals.{outcome, leaves, leavesWith, cleared, accepted, freshOf, batchOf}
 use Rattle.rules.specs.Demands.{Callable}
-use Rattle.rules.proofs.Fine.{Fine, fine-of}
+use Rattle.rules.proofs.Fine.{fine-of}
 use Rattle.rules.proofs.Demands.{demand-1, demand-2}
 use Rattle.rules.proofs.Demand1.{fresh-refused, fresh-accepted}
 use Rattle.rules.proofs.Entry.{entry-ended}

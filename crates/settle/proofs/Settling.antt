@@ -1,9 +1,9 @@
 -- Laws of a settle on all rows, and how a caller meets and uses its contract. Assumes nothing.
 use mathlib.Core.Path.{_≡_, ap, _∙_}
 use mathlib.Core.Bool.{Bool, true, false}
-use mathlib.Core.Option.{Option, none, some}
-use mathlib.Core.List.{List, [], map}
-use Prim.Native.Nat.{ℕ, zero, suc, _+_}
+use mathlib.Core.Option.{Option}
+use mathlib.Core.List.{List, map}
+use Prim.Native.Nat.{ℕ, _+_}
 use native.Mathlib.Omega.{arith}
 use lib.ListN.{length, replicate, length-replicate}
 use lib.IntN.{ℤ}
@@ -11,7 +11,7 @@ use Rattle.rules.specs.declared.Used.{Used}
 use Rattle.rules.specs.Head.{Sizes}
 use Rattle.rules.specs.Field.{variableOf}
 use Rattle.rules.specs.Rules.{Tables, Transaction, replay}
-use Rattle.rules.specs.Settle.{Heap, pick, freeCell, reclaim, replayed, settledBy, settled}
+use Rattle.rules.specs.Settle.{Heap, reclaim, replayed, settledBy, settled}
 use Rattle.rules.specs.Step.{settledIf}
 use Rattle.rules.specs.Rows.{Ready, Rows, Logged, Whole}
 use Rattle.rules.proofs.Step.{settledBy-log, settledBy-variables}

@@ -1,14 +1,14 @@
 -- The calls of a batch one after the other, and the settle at its end. Assumes nothing.
-use Prim.Native.Nat.{ℕ, zero, suc, _+_, _-_, _*_, _≤_, _<_}
+use Prim.Native.Nat.{ℕ, suc, _+_, _-_, _*_, _≤_, _<_}
 use mathlib.Core.Path.{_≡_, refl, sym, ap, _∙_, subst}
 use mathlib.Core.Bool.{Bool, true, false, cond}
-use mathlib.Core.Option.{Option, none, some}
+use mathlib.Core.Option.{none, some}
 use mathlib.Core.List.{List, [], _∷_, _++_, append-assoc, append-nil}
 use native.Mathlib.Omega.{arith}
 use native.Mathlib.Numerals.{add-one}
 use lib.Dec.{leb}
 use lib.IntN.{ℤ, pos}
-use lib.ListN.{length, length-map, length-append, length-replicate, length-drop, getD, set, drop, replicate, drop-of-length-le}
+use lib.ListN.{length, length-map, length-append, length-replicate, length-drop, getD, set, drop, drop-of-length-le}
 use lib.Seq.{drop-cons, set-at}
 use borrow.Author.Tests.{leb-true}
 use Rattle.rules.specs.declared.Call.{Call}
@@ -17,8 +17,8 @@ use Rattle.rules.specs.declared.Call.the-variants.{Settle}
 use Rattle.rules.specs.Head.{Sizes}
 use Rattle.rules.specs.Settle.{Heap, settled}
 use Rattle.rules.specs.Call.{Answer, callsOf, callsIn}
-use Rattle.rules.specs.Step.{Stepped, settledIf, step, calls}
-use Rattle.rules.specs.Rows.{Lent, lent, rowsOf, headOf}
+use Rattle.rules.specs.Step.{settledIf, step, calls}
+use Rattle.rules.specs.Rows.{Lent, lent, rowsOf}
 use Rattle.rules.specs.Refusals.{answerWords, answered, outcome}
 use Rattle.rules.proofs.Fine.{Fine}
 use Rattle.rules.proofs.Calls.{Fits, AllFit, calls-in-fit}
@@ -26,11 +26,11 @@ use Rattle.rules.proofs.Demand1.{words-long}
 use Rattle.rules.proofs.Whole.{rows-all, head-is}
 use Rattle.cells.proofs.Storing.{cell-lengths}
 use Rattle.words.specs.Words.{callAt}
-use Rattle.words.proofs.Listing.{Listed, listed}
+use Rattle.words.proofs.Listing.{listed}
 use Rattle.settle.specs.declared.Reclaimed.{Reclaimed}
 use Rattle.settle.specs.Settling.{Settled}
 use Rattle.working.specs.declared.State.{State}
-use Rattle.working.specs.Working.{Standing, Workable, Turnable, Turned, Runnable, Ran, Endable, Finished, Batched}
+use Rattle.working.specs.Working.{Standing, Turnable, Turned, Runnable, Ran, Endable, Finished, Batched}
 use Rattle.working.proofs.Steps.{few-freed}
 
 -- ---- lengths

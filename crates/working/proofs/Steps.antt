@@ -3,7 +3,7 @@ use Prim.Native.Nat.{ℕ, zero, suc, _+_, _-_, _*_, _≤_, _<_}
 use mathlib.Core.Path.{_≡_, refl, sym, ap, _∙_, subst}
 use mathlib.Core.Logic.{_⊎_, inl, inr}
 use mathlib.Core.Bool.{Bool, true, false, cond, _||_, true≢false}
-use mathlib.Core.List.{List, []}
+use mathlib.Core.List.{List}
 use native.Mathlib.Omega.{arith}
 use lib.Dec.{ltb, eqb}
 use lib.IntN.{ℤ, pos}
@@ -13,11 +13,11 @@ use borrow.Author.Tests.{le-ltb}
 use Rattle.rules.specs.declared.Call.{Call}
 use Rattle.rules.specs.declared.Call.the-variants.{New, Copy, Clear, Link, Put, Blank, Follow, Read, Same, Settle}
 use Rattle.rules.specs.Head.{Sizes}
-use Rattle.rules.specs.Settle.{Shape, Heap, settled}
-use Rattle.rules.specs.Call.{Answer, answer, var, check, logs}
+use Rattle.rules.specs.Settle.{Shape, Heap}
+use Rattle.rules.specs.Call.{answer, var, check, logs}
 use Rattle.rules.specs.Step.{Stepped, done, refused, settledIf, full, noneFree, doNew, doCall, doSettle, takeCell, room, run, step}
-use Rattle.calls.specs.Seen.{needs}
-use Rattle.calls.specs.Doing.{acted}
+use Rattle.calls.specs.Seen.{needs, Shown, Reaches}
+use Rattle.calls.specs.Doing.{acted, Did, Able}
 use Rattle.rules.specs.declared.Used.{Used}
 use Rattle.rules.specs.Rows.{Whole}
 use Rattle.rules.proofs.Tests.{not-first}
@@ -33,12 +33,9 @@ use Rattle.words.specs.declared.Decoded.{Decoded}
 use Rattle.words.specs.declared.Decoded.the-variants.{Is, Bad}
 use Rattle.words.specs.Words.{decodedAs, callAt}
 use mathlib.Core.Option.{Option, some}
-use Rattle.calls.specs.Seen.{Shown, Named, Reaches}
-use Rattle.calls.specs.Doing.{Did, Able}
 use Rattle.calls.proofs.Arms.{shown-of, named-of, able}
 use Rattle.settle.specs.declared.Room.{Room}
-use Rattle.settle.specs.Settling.{Settleable, RoomMade}
-use Rattle.settle.proofs.Settling.{settleable}
+use Rattle.settle.specs.Settling.{RoomMade}
 use Rattle.working.specs.declared.State.{State}
 use Rattle.working.specs.declared.Worked.{Worked}
 use Rattle.working.specs.Working.{wants, valued, LeftBy, Standing, Workable, Answered}

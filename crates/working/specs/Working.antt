@@ -1,29 +1,27 @@
 -- Where a batch stands, and a call as the code works it: checked, settled first where it wants that, then done. Assumes nothing.
-use Prim.Native.Nat.{ℕ, _+_, _-_, _*_, _≤_, _<_}
+use Prim.Native.Nat.{ℕ, _+_, _-_, _*_, _≤_}
 use mathlib.Core.Path.{_≡_}
 use mathlib.Core.Bool.{Bool, true, _||_}
-use mathlib.Core.Option.{Option, some}
+use mathlib.Core.Option.{some}
 use mathlib.Core.List.{List}
 use lib.ListN.{length, set}
 use lib.IntN.{ℤ, pos}
 use Rattle.rules.specs.declared.Head.{Head}
-use Rattle.rules.specs.declared.Used.{Used}
 use Rattle.rules.specs.declared.Call.{Call}
 use Rattle.rules.specs.declared.Call.the-variants.{New, Copy, Clear, Link, Put, Blank, Follow, Read, Same, Settle}
 use Rattle.rules.specs.declared.Outcome.{Outcome}
-use Rattle.rules.specs.Head.{Sizes, sizesOf}
+use Rattle.rules.specs.Head.{Sizes}
 use Rattle.rules.specs.Settle.{Heap, settled}
 use Rattle.rules.specs.Call.{Answer, answer, callsIn}
-use Rattle.rules.specs.Step.{settledIf, full, noneFree, calls}
+use Rattle.rules.specs.Step.{full, noneFree, calls}
 use Rattle.rules.specs.Step as rules
 use Rattle.rules.specs.Rows.{Whole, Lent, rowsOf, headOf}
 use Rattle.rules.specs.Refusals.{outcome, answered}
 use Rattle.rules.proofs.Invariant.{Inv}
 use Rattle.rules.proofs.Fine.{Fine}
-use Rattle.rules.proofs.Calls.{Fits, AllFit}
+use Rattle.rules.proofs.Calls.{Fits}
 use Rattle.words.specs.Words.{callAt}
 use Rattle.calls.specs.Seen.{needs}
-use Rattle.calls.specs.Doing.{acted}
 use Rattle.calls.specs.declared.Acted.{Acted}
 use Rattle.settle.specs.declared.Room.{Room}
 use Rattle.working.specs.declared.State.{State}

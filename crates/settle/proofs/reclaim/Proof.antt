@@ -5,7 +5,6 @@ use mathlib.Core.Path.{sym, _∙_}
 use native.Mathlib.Omega.{arith}
 use Prim.Native.Nat.{ℕ, _≤_, _-_, zero-le}
 use lib.ListN.{length}
-use borrow.Author.Needs.{needs}
 use Rattle.rules.specs.Settle.{Heap}
 use Rattle.rules.specs.Rows.{Rows}
 use Rattle.cells.specs.Marks.{Marks}

@@ -4,7 +4,6 @@ use Rattle.rules.proofs.Reclaim.{replay-append}
 use Rattle.tables.proofs.Single.{is-padded}
 use Rattle.tables.proofs.Steps.{left, tabled}
 use Rattle.settle.proofs.Freeing.{inside-as}
-use borrow.Author.Needs.{needs}
 use Rattle.settle.proofs.release.Statement.{statement}
 use Rattle.settle.proofs.release.Tie as tie
 

@@ -2,7 +2,6 @@
 use mathlib.Core.Path.{_∙_}
 use Rattle.settle.proofs.Replaying.{replayable}
 use Rattle.settle.proofs.Settling.{reclaimable-by, settled-by}
-use borrow.Author.Needs.{needs}
 use Rattle.settle.proofs.settle.Statement.{statement}
 use Rattle.settle.proofs.settle.Tie as tie
 

@@ -1,6 +1,5 @@
 -- `settle::settle_if` meets its contract. Assumes nothing.
 use Rattle.settle.proofs.Settling.{room-made, room-as-is}
-use borrow.Author.Needs.{needs}
 use Rattle.settle.proofs.settle_if.Statement.{statement}
 use Rattle.settle.proofs.settle_if.Tie as tie
 

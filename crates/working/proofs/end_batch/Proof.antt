@@ -1,5 +1,5 @@
 use native.Mathlib.Omega.{arith}
-use mathlib.Core.Path.{_≡_, refl}
+use mathlib.Core.Path.{refl}
 use Rattle.rules.specs.Head.{sizesOf}
 use Rattle.settle.proofs.Settling.{settleable}
 use Rattle.working.proofs.Loop.{end-few, end-as}

@@ -1,6 +1,5 @@
 use mathlib.Core.Path.{_∙_}
 use Rattle.working.proofs.Loop.{runnable-at, endable-after, batched-after}
-use borrow.Author.Needs.{needs}
 use Rattle.working.proofs.run_batch.Statement.{statement}
 use Rattle.working.proofs.run_batch.Tie as tie
 use Rattle.working.proofs.run_batch.Reads as reads

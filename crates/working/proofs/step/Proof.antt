@@ -1,8 +1,5 @@
-use mathlib.Core.Path.{_≡_, refl, sym, _∙_}
+use mathlib.Core.Path.{refl, _∙_}
 use native.Mathlib.Omega.{arith}
-use Prim.Native.Nat.{_+_, _≤_}
-use lib.ListN.{length}
-use Rattle.rules.specs.Head.{sizesOf}
 use Rattle.working.proofs.Steps.{reaches, shown, refused-as, few, needs-two, able-now, few-both, worked-as}
 use Rattle.settle.proofs.Settling.{settleable}
 use borrow.Author.Needs.{needs}

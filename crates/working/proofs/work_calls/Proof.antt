@@ -1,9 +1,9 @@
-use Prim.Native.Nat.{_+_, _*_, _-_}
+use Prim.Native.Nat.{_*_, _-_}
 use native.Mathlib.Omega.{arith}
-use mathlib.Core.Path.{_≡_, sym, _∙_}
+use mathlib.Core.Path.{sym, _∙_}
 use lib.ListN.{length}
 use Rattle.rules.specs.Head.{sizesOf}
-use Rattle.working.proofs.Loop.{Going, long-of, begun, now-at, small-i, list-long, answers-same, turnable, again, finish}
+use Rattle.working.proofs.Loop.{Going, long-of, begun, now-at, small-i, answers-same, turnable, again, finish}
 use Rattle.working.proofs.work_calls.Statement.{statement}
 use Rattle.working.proofs.work_calls.Tie as tie
 use Rattle.working.proofs.work_calls.Reads as reads
