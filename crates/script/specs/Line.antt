@@ -17,9 +17,12 @@ use Rattle.script.specs.Number.{numberOf, plainOf, figureOf}
 
 -- ---- operation words
 
--- the operation words, from 1 on, and batch after them
+-- the operation words, from 1 on, and batch after them: the first five, and those from 6 on
+abbrev pub laterOperations : List (List ℕ)
+laterOperations = bytes "blank" ∷ bytes "follow" ∷ bytes "read" ∷ bytes "same" ∷ bytes "settle" ∷ bytes "batch" ∷ []
+
 abbrev pub operations : List (List ℕ)
-operations = bytes "new" ∷ bytes "copy" ∷ bytes "clear" ∷ bytes "link" ∷ bytes "put" ∷ bytes "blank" ∷ bytes "follow" ∷ bytes "read" ∷ bytes "same" ∷ bytes "settle" ∷ bytes "batch" ∷ []
+operations = bytes "new" ∷ bytes "copy" ∷ bytes "clear" ∷ bytes "link" ∷ bytes "put" ∷ laterOperations
 
 -- which of the words, from k on; 0 for none
 unfoldable pub wordIn : ℕ → List (List ℕ) → List ℕ → ℕ
