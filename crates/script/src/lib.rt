@@ -9,7 +9,7 @@ ghost use Rattle.rules.specs.Call.{callOf};
 ghost use Rattle.words.specs.Words.{isSome};
 ghost use Rattle.script.specs.Text.{sameBytes, upTo, fieldsOf, lineAt, lineEnd, nextLine};
 ghost use Rattle.script.specs.Number.{digitsFrom, numberOf, plainOf, figureOf};
-ghost use Rattle.script.specs.Line.{operationOf, arity, wordOf, callLine, lineOf, heapLine, headLineOf, asWord, capped};
+ghost use Rattle.script.specs.Line.{operations, wordIn, operationOf, arity, wordOf, callLine, lineOf, heapLine, headLineOf, asWord, capped};
 ghost use Rattle.script.specs.Place.{Starts};
 
 // A line holds at most so many bytes besides its LF.
@@ -205,25 +205,10 @@ fn figure(s: &[u8]) -> Word
     Word::Number(-1 - ((n - 1) as i32))
 }
 
-// The number of an operation word, 11 for batch, 0 for any other.
-fn operation(s: &[u8]) -> usize
-    ensures { λ r. ⌜ r ≡ operationOf (now (s .entry)) ⌝ }
+// The number of an operation word from blank on, 11 for batch, 0 for any other.
+fn later_operation(s: &[u8]) -> usize
+    ensures { λ r. ⌜ r ≡ wordIn 6 (drop 5 operations) (now (s .entry)) ⌝ }
 {
-    if same(s, b"new") {
-        return 1;
-    }
-    if same(s, b"copy") {
-        return 2;
-    }
-    if same(s, b"clear") {
-        return 3;
-    }
-    if same(s, b"link") {
-        return 4;
-    }
-    if same(s, b"put") {
-        return 5;
-    }
     if same(s, b"blank") {
         return 6;
     }
@@ -243,6 +228,28 @@ fn operation(s: &[u8]) -> usize
         return 11;
     }
     0
+}
+
+// The number of an operation word, 11 for batch, 0 for any other.
+fn operation(s: &[u8]) -> usize
+    ensures { λ r. ⌜ r ≡ operationOf (now (s .entry)) ⌝ }
+{
+    if same(s, b"new") {
+        return 1;
+    }
+    if same(s, b"copy") {
+        return 2;
+    }
+    if same(s, b"clear") {
+        return 3;
+    }
+    if same(s, b"link") {
+        return 4;
+    }
+    if same(s, b"put") {
+        return 5;
+    }
+    later_operation(s)
 }
 
 // How many words each operation takes.

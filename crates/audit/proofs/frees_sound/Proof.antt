@@ -1,3 +1,4 @@
+use mathlib.Core.Path.{_∙_}
 use borrow.Author.Tests.{not-true, not-false}
 use Rattle.rules.proofs.Answers.{isn't, same}
 use Rattle.checks.proofs.Walks.{met-frees, frees-met}
@@ -6,13 +7,13 @@ use Rattle.audit.proofs.frees_sound.Statement.{statement}
 use Rattle.audit.proofs.frees_sound.Tie as tie
 
 clear-requires : tie.Need-clear-requires
-clear-requires c κs = search needs
+clear-requires c κs = tt
 
 walk-requires : tie.Need-walk-requires
 walk-requires c κs = let p = c .before .before .before .before .before .before .before .pre in (p .0, rw (p .1) at (c .before .before .before .clear .ensures))
 
 same-length : tie.Need-same-length
-same-length c = search needs
+same-length c = c .before .before .work2 .given ∙ c .before .before .before .before .before .before .work .given
 
 returns : tie.Need-returns
 returns c = isn't (λ F. c .before .before .before .walk .ensures .no (not-true _ (c .if1 .taken)) F)
@@ -21,7 +22,7 @@ all-met-requires : tie.Need-all-met-requires
 all-met-requires c κs = search needs
 
 same-length-2 : tie.Need-same-length-2
-same-length-2 c = search needs
+same-length-2 c = c .before .before .before .before .work2 .given ∙ c .before .before .before .before .before .before .before .before .work .given
 
 returns-2 : tie.Need-returns-2
 returns-2 c =

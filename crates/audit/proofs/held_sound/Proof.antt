@@ -3,12 +3,11 @@ use mathlib.Core.List.{map}
 use Rattle.rules.specs.Field.{heldOf}
 use Rattle.rules.proofs.Answers.{same}
 use Rattle.audit.proofs.Whole.{marked-held, held-marked}
-use borrow.Author.Needs.{needs}
 use Rattle.audit.proofs.held_sound.Statement.{statement}
 use Rattle.audit.proofs.held_sound.Tie as tie
 
 mark-held-requires : tie.Need-mark-held-requires
-mark-held-requires c κs = search needs
+mark-held-requires c κs = tt
 
 all-held-requires : tie.Need-all-held-requires
 all-held-requires c κs =
@@ -17,7 +16,7 @@ all-held-requires c κs =
     (p .0 .0, rw (m .long, p .0 .1) (p .1 .0))
 
 same-length : tie.Need-same-length
-same-length c = search needs
+same-length c = c .before .before .before .work .given
 
 returns : tie.Need-returns
 returns c =

@@ -18,7 +18,7 @@ work-sound-requires c κs =
     work-ready _ _ _ _ _ _ _ _ _ z s
 
 same-length : tie.Need-same-length
-same-length c = search needs
+same-length c = c .before .work .given
 
 returns-2 : tie.Need-returns-2
 returns-2 c =

@@ -1,3 +1,4 @@
+use mathlib.Core.Path.{_∙_}
 use Rattle.rules.proofs.Answers.{same}
 use Rattle.audit.proofs.Whole.{agree-pointers, pointers-agree}
 use borrow.Author.Needs.{needs}
@@ -5,7 +6,7 @@ use Rattle.audit.proofs.pointers_sound.Statement.{statement}
 use Rattle.audit.proofs.pointers_sound.Tie as tie
 
 clear-requires : tie.Need-clear-requires
-clear-requires c κs = search needs
+clear-requires c κs = tt
 
 count-requires : tie.Need-count-requires
 count-requires c κs = let p = c .before .before .before .before .before .before .before .before .before .before .pre in (p .0, rw (p .1 .0) at (c .before .before .before .clear .ensures))
@@ -14,7 +15,7 @@ compare-requires : tie.Need-compare-requires
 compare-requires c κs = search needs
 
 same-length : tie.Need-same-length
-same-length c = search needs
+same-length c = c .before .before .before .work2 .given ∙ c .before .before .before .before .before .before .before .work .given
 
 returns : tie.Need-returns
 returns c =

@@ -1,25 +1,18 @@
-use mathlib.Core.Path.{_≡_}
-use native.Mathlib.Omega.{arith}
-use lib.ListN.{length}
-use borrow.Author.Needs.{needs}
+use mathlib.Core.Path.{_∙_}
 use Rattle.audit.proofs.sound.Statement.{statement}
 use Rattle.audit.proofs.sound.Tie as tie
 
 parts-sound-requires : tie.Need-parts-sound-requires
-parts-sound-requires c κs = search needs
+parts-sound-requires c κs = c .before .before .before .before .before .before .before .pre
 
 clear-requires : tie.Need-clear-requires
-clear-requires c κs = search needs
+clear-requires c κs = tt
 
 same-length : tie.Need-same-length
-same-length c = search needs
+same-length c = c .before .work2 .given ∙ c .before .before .before .before .before .work .given
 
 returns : tie.Need-returns
-returns c =
-    let p = c .before .before .before .before .before .before .parts-sound in
-    let z = c .before .before .before .before .before .before .before .before .before .before .before .before .before .before .pre .lengths .for-work in
-    let e : length (p .last .1 .1 .1 .1 .1 .1 .1 .1 .0) ≡ c .before .before .before .before .before .before .before .before .before .before .before .before .before .before .args .head .n = omega (arith, p .kept .1 .1 .1 .1 .1 .1 .1 .1 .0) in
-    (p .ensures, rw e at (c .before .before .clear .ensures))
+returns c = (c .before .before .before .before .before .before .parts-sound .ensures, rw (c .before .before .before .before .before .work .given ∙ c .before .before .before .before .before .before .before .before .before .before .before .before .before .before .pre .lengths .for-work) at (c .before .before .clear .ensures))
 
 pub sound-spec : {M : Type 1} → statement M
 sound-spec = tie.close (tie.spec parts-sound-requires clear-requires same-length returns)

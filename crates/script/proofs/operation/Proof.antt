@@ -1,5 +1,5 @@
-use Rattle.script.proofs.LineLaws.{word-here, word-on, word-past}
 use mathlib.Core.Path.{refl}
+use Rattle.script.proofs.LineLaws.{word-here, word-on}
 use Rattle.script.proofs.operation.Statement.{statement}
 use Rattle.script.proofs.operation.Tie as tie
 
@@ -48,62 +48,11 @@ same-requires-5 c κs = tt
 returns-5 : tie.Need-returns-5
 returns-5 c = word-on _ _ _ _ (c .before .before .before .before .before .before .before .before .before .before .before .before .before .same .ensures) (c .before .before .before .before .before .before .before .before .before .before .before .before .if1 .left) (word-on _ _ _ _ (c .before .before .before .before .before .before .before .before .before .before .same2 .ensures) (c .before .before .before .before .before .before .before .before .before .if2 .left) (word-on _ _ _ _ (c .before .before .before .before .before .before .before .same3 .ensures) (c .before .before .before .before .before .before .if3 .left) (word-on _ _ _ _ (c .before .before .before .before .same4 .ensures) (c .before .before .before .if4 .left) (word-here _ _ _ _ (c .before .same5 .ensures) (c .if5 .taken)))))
 
-slice-aggregate-same-6 : tie.Need-slice-aggregate-same-6
-slice-aggregate-same-6 c = refl
-
-same-requires-6 : tie.Need-same-requires-6
-same-requires-6 c κs = tt
+later-operation-requires : tie.Need-later-operation-requires
+later-operation-requires c κs = tt
 
 returns-6 : tie.Need-returns-6
-returns-6 c = word-on _ _ _ _ (c .before .before .before .before .before .before .before .before .before .before .before .before .before .before .before .before .same .ensures) (c .before .before .before .before .before .before .before .before .before .before .before .before .before .before .before .if1 .left) (word-on _ _ _ _ (c .before .before .before .before .before .before .before .before .before .before .before .before .before .same2 .ensures) (c .before .before .before .before .before .before .before .before .before .before .before .before .if2 .left) (word-on _ _ _ _ (c .before .before .before .before .before .before .before .before .before .before .same3 .ensures) (c .before .before .before .before .before .before .before .before .before .if3 .left) (word-on _ _ _ _ (c .before .before .before .before .before .before .before .same4 .ensures) (c .before .before .before .before .before .before .if4 .left) (word-on _ _ _ _ (c .before .before .before .before .same5 .ensures) (c .before .before .before .if5 .left) (word-here _ _ _ _ (c .before .same6 .ensures) (c .if6 .taken))))))
-
-slice-aggregate-same-7 : tie.Need-slice-aggregate-same-7
-slice-aggregate-same-7 c = refl
-
-same-requires-7 : tie.Need-same-requires-7
-same-requires-7 c κs = tt
-
-returns-7 : tie.Need-returns-7
-returns-7 c = word-on _ _ _ _ (c .before .before .before .before .before .before .before .before .before .before .before .before .before .before .before .before .before .before .before .same .ensures) (c .before .before .before .before .before .before .before .before .before .before .before .before .before .before .before .before .before .before .if1 .left) (word-on _ _ _ _ (c .before .before .before .before .before .before .before .before .before .before .before .before .before .before .before .before .same2 .ensures) (c .before .before .before .before .before .before .before .before .before .before .before .before .before .before .before .if2 .left) (word-on _ _ _ _ (c .before .before .before .before .before .before .before .before .before .before .before .before .before .same3 .ensures) (c .before .before .before .before .before .before .before .before .before .before .before .before .if3 .left) (word-on _ _ _ _ (c .before .before .before .before .before .before .before .before .before .before .same4 .ensures) (c .before .before .before .before .before .before .before .before .before .if4 .left) (word-on _ _ _ _ (c .before .before .before .before .before .before .before .same5 .ensures) (c .before .before .before .before .before .before .if5 .left) (word-on _ _ _ _ (c .before .before .before .before .same6 .ensures) (c .before .before .before .if6 .left) (word-here _ _ _ _ (c .before .same7 .ensures) (c .if7 .taken)))))))
-
-slice-aggregate-same-8 : tie.Need-slice-aggregate-same-8
-slice-aggregate-same-8 c = refl
-
-same-requires-8 : tie.Need-same-requires-8
-same-requires-8 c κs = tt
-
-returns-8 : tie.Need-returns-8
-returns-8 c = word-on _ _ _ _ (c .before .before .before .before .before .before .before .before .before .before .before .before .before .before .before .before .before .before .before .before .before .before .same .ensures) (c .before .before .before .before .before .before .before .before .before .before .before .before .before .before .before .before .before .before .before .before .before .if1 .left) (word-on _ _ _ _ (c .before .before .before .before .before .before .before .before .before .before .before .before .before .before .before .before .before .before .before .same2 .ensures) (c .before .before .before .before .before .before .before .before .before .before .before .before .before .before .before .before .before .before .if2 .left) (word-on _ _ _ _ (c .before .before .before .before .before .before .before .before .before .before .before .before .before .before .before .before .same3 .ensures) (c .before .before .before .before .before .before .before .before .before .before .before .before .before .before .before .if3 .left) (word-on _ _ _ _ (c .before .before .before .before .before .before .before .before .before .before .before .before .before .same4 .ensures) (c .before .before .before .before .before .before .before .before .before .before .before .before .if4 .left) (word-on _ _ _ _ (c .before .before .before .before .before .before .before .before .before .before .same5 .ensures) (c .before .before .before .before .before .before .before .before .before .if5 .left) (word-on _ _ _ _ (c .before .before .before .before .before .before .before .same6 .ensures) (c .before .before .before .before .before .before .if6 .left) (word-on _ _ _ _ (c .before .before .before .before .same7 .ensures) (c .before .before .before .if7 .left) (word-here _ _ _ _ (c .before .same8 .ensures) (c .if8 .taken))))))))
-
-slice-aggregate-same-9 : tie.Need-slice-aggregate-same-9
-slice-aggregate-same-9 c = refl
-
-same-requires-9 : tie.Need-same-requires-9
-same-requires-9 c κs = tt
-
-returns-9 : tie.Need-returns-9
-returns-9 c = word-on _ _ _ _ (c .before .before .before .before .before .before .before .before .before .before .before .before .before .before .before .before .before .before .before .before .before .before .before .before .before .same .ensures) (c .before .before .before .before .before .before .before .before .before .before .before .before .before .before .before .before .before .before .before .before .before .before .before .before .if1 .left) (word-on _ _ _ _ (c .before .before .before .before .before .before .before .before .before .before .before .before .before .before .before .before .before .before .before .before .before .before .same2 .ensures) (c .before .before .before .before .before .before .before .before .before .before .before .before .before .before .before .before .before .before .before .before .before .if2 .left) (word-on _ _ _ _ (c .before .before .before .before .before .before .before .before .before .before .before .before .before .before .before .before .before .before .before .same3 .ensures) (c .before .before .before .before .before .before .before .before .before .before .before .before .before .before .before .before .before .before .if3 .left) (word-on _ _ _ _ (c .before .before .before .before .before .before .before .before .before .before .before .before .before .before .before .before .same4 .ensures) (c .before .before .before .before .before .before .before .before .before .before .before .before .before .before .before .if4 .left) (word-on _ _ _ _ (c .before .before .before .before .before .before .before .before .before .before .before .before .before .same5 .ensures) (c .before .before .before .before .before .before .before .before .before .before .before .before .if5 .left) (word-on _ _ _ _ (c .before .before .before .before .before .before .before .before .before .before .same6 .ensures) (c .before .before .before .before .before .before .before .before .before .if6 .left) (word-on _ _ _ _ (c .before .before .before .before .before .before .before .same7 .ensures) (c .before .before .before .before .before .before .if7 .left) (word-on _ _ _ _ (c .before .before .before .before .same8 .ensures) (c .before .before .before .if8 .left) (word-here _ _ _ _ (c .before .same9 .ensures) (c .if9 .taken)))))))))
-
-slice-aggregate-same-10 : tie.Need-slice-aggregate-same-10
-slice-aggregate-same-10 c = refl
-
-same-requires-10 : tie.Need-same-requires-10
-same-requires-10 c κs = tt
-
-returns-10 : tie.Need-returns-10
-returns-10 c = word-on _ _ _ _ (c .before .before .before .before .before .before .before .before .before .before .before .before .before .before .before .before .before .before .before .before .before .before .before .before .before .before .before .before .same .ensures) (c .before .before .before .before .before .before .before .before .before .before .before .before .before .before .before .before .before .before .before .before .before .before .before .before .before .before .before .if1 .left) (word-on _ _ _ _ (c .before .before .before .before .before .before .before .before .before .before .before .before .before .before .before .before .before .before .before .before .before .before .before .before .before .same2 .ensures) (c .before .before .before .before .before .before .before .before .before .before .before .before .before .before .before .before .before .before .before .before .before .before .before .before .if2 .left) (word-on _ _ _ _ (c .before .before .before .before .before .before .before .before .before .before .before .before .before .before .before .before .before .before .before .before .before .before .same3 .ensures) (c .before .before .before .before .before .before .before .before .before .before .before .before .before .before .before .before .before .before .before .before .before .if3 .left) (word-on _ _ _ _ (c .before .before .before .before .before .before .before .before .before .before .before .before .before .before .before .before .before .before .before .same4 .ensures) (c .before .before .before .before .before .before .before .before .before .before .before .before .before .before .before .before .before .before .if4 .left) (word-on _ _ _ _ (c .before .before .before .before .before .before .before .before .before .before .before .before .before .before .before .before .same5 .ensures) (c .before .before .before .before .before .before .before .before .before .before .before .before .before .before .before .if5 .left) (word-on _ _ _ _ (c .before .before .before .before .before .before .before .before .before .before .before .before .before .same6 .ensures) (c .before .before .before .before .before .before .before .before .before .before .before .before .if6 .left) (word-on _ _ _ _ (c .before .before .before .before .before .before .before .before .before .before .same7 .ensures) (c .before .before .before .before .before .before .before .before .before .if7 .left) (word-on _ _ _ _ (c .before .before .before .before .before .before .before .same8 .ensures) (c .before .before .before .before .before .before .if8 .left) (word-on _ _ _ _ (c .before .before .before .before .same9 .ensures) (c .before .before .before .if9 .left) (word-here _ _ _ _ (c .before .same10 .ensures) (c .if10 .taken))))))))))
-
-slice-aggregate-same-11 : tie.Need-slice-aggregate-same-11
-slice-aggregate-same-11 c = refl
-
-same-requires-11 : tie.Need-same-requires-11
-same-requires-11 c κs = tt
-
-returns-11 : tie.Need-returns-11
-returns-11 c = word-on _ _ _ _ (c .before .before .before .before .before .before .before .before .before .before .before .before .before .before .before .before .before .before .before .before .before .before .before .before .before .before .before .before .before .before .before .same .ensures) (c .before .before .before .before .before .before .before .before .before .before .before .before .before .before .before .before .before .before .before .before .before .before .before .before .before .before .before .before .before .before .if1 .left) (word-on _ _ _ _ (c .before .before .before .before .before .before .before .before .before .before .before .before .before .before .before .before .before .before .before .before .before .before .before .before .before .before .before .before .same2 .ensures) (c .before .before .before .before .before .before .before .before .before .before .before .before .before .before .before .before .before .before .before .before .before .before .before .before .before .before .before .if2 .left) (word-on _ _ _ _ (c .before .before .before .before .before .before .before .before .before .before .before .before .before .before .before .before .before .before .before .before .before .before .before .before .before .same3 .ensures) (c .before .before .before .before .before .before .before .before .before .before .before .before .before .before .before .before .before .before .before .before .before .before .before .before .if3 .left) (word-on _ _ _ _ (c .before .before .before .before .before .before .before .before .before .before .before .before .before .before .before .before .before .before .before .before .before .before .same4 .ensures) (c .before .before .before .before .before .before .before .before .before .before .before .before .before .before .before .before .before .before .before .before .before .if4 .left) (word-on _ _ _ _ (c .before .before .before .before .before .before .before .before .before .before .before .before .before .before .before .before .before .before .before .same5 .ensures) (c .before .before .before .before .before .before .before .before .before .before .before .before .before .before .before .before .before .before .if5 .left) (word-on _ _ _ _ (c .before .before .before .before .before .before .before .before .before .before .before .before .before .before .before .before .same6 .ensures) (c .before .before .before .before .before .before .before .before .before .before .before .before .before .before .before .if6 .left) (word-on _ _ _ _ (c .before .before .before .before .before .before .before .before .before .before .before .before .before .same7 .ensures) (c .before .before .before .before .before .before .before .before .before .before .before .before .if7 .left) (word-on _ _ _ _ (c .before .before .before .before .before .before .before .before .before .before .same8 .ensures) (c .before .before .before .before .before .before .before .before .before .if8 .left) (word-on _ _ _ _ (c .before .before .before .before .before .before .before .same9 .ensures) (c .before .before .before .before .before .before .if9 .left) (word-on _ _ _ _ (c .before .before .before .before .same10 .ensures) (c .before .before .before .if10 .left) (word-here _ _ _ _ (c .before .same11 .ensures) (c .if11 .taken)))))))))))
-
-returns-12 : tie.Need-returns-12
-returns-12 c = word-on _ _ _ _ (c .before .before .before .before .before .before .before .before .before .before .before .before .before .before .before .before .before .before .before .before .before .before .before .before .before .before .before .before .before .before .before .same .ensures) (c .before .before .before .before .before .before .before .before .before .before .before .before .before .before .before .before .before .before .before .before .before .before .before .before .before .before .before .before .before .before .if1 .left) (word-on _ _ _ _ (c .before .before .before .before .before .before .before .before .before .before .before .before .before .before .before .before .before .before .before .before .before .before .before .before .before .before .before .before .same2 .ensures) (c .before .before .before .before .before .before .before .before .before .before .before .before .before .before .before .before .before .before .before .before .before .before .before .before .before .before .before .if2 .left) (word-on _ _ _ _ (c .before .before .before .before .before .before .before .before .before .before .before .before .before .before .before .before .before .before .before .before .before .before .before .before .before .same3 .ensures) (c .before .before .before .before .before .before .before .before .before .before .before .before .before .before .before .before .before .before .before .before .before .before .before .before .if3 .left) (word-on _ _ _ _ (c .before .before .before .before .before .before .before .before .before .before .before .before .before .before .before .before .before .before .before .before .before .before .same4 .ensures) (c .before .before .before .before .before .before .before .before .before .before .before .before .before .before .before .before .before .before .before .before .before .if4 .left) (word-on _ _ _ _ (c .before .before .before .before .before .before .before .before .before .before .before .before .before .before .before .before .before .before .before .same5 .ensures) (c .before .before .before .before .before .before .before .before .before .before .before .before .before .before .before .before .before .before .if5 .left) (word-on _ _ _ _ (c .before .before .before .before .before .before .before .before .before .before .before .before .before .before .before .before .same6 .ensures) (c .before .before .before .before .before .before .before .before .before .before .before .before .before .before .before .if6 .left) (word-on _ _ _ _ (c .before .before .before .before .before .before .before .before .before .before .before .before .before .same7 .ensures) (c .before .before .before .before .before .before .before .before .before .before .before .before .if7 .left) (word-on _ _ _ _ (c .before .before .before .before .before .before .before .before .before .before .same8 .ensures) (c .before .before .before .before .before .before .before .before .before .if8 .left) (word-on _ _ _ _ (c .before .before .before .before .before .before .before .same9 .ensures) (c .before .before .before .before .before .before .if9 .left) (word-on _ _ _ _ (c .before .before .before .before .same10 .ensures) (c .before .before .before .if10 .left) (word-on _ _ _ _ (c .before .same11 .ensures) (c .if11 .left) (word-past _ _)))))))))))
+returns-6 c = word-on _ _ _ _ (c .before .before .before .before .before .before .before .before .before .before .before .before .before .before .same .ensures) (c .before .before .before .before .before .before .before .before .before .before .before .before .before .if1 .left) (word-on _ _ _ _ (c .before .before .before .before .before .before .before .before .before .before .before .same2 .ensures) (c .before .before .before .before .before .before .before .before .before .before .if2 .left) (word-on _ _ _ _ (c .before .before .before .before .before .before .before .before .same3 .ensures) (c .before .before .before .before .before .before .before .if3 .left) (word-on _ _ _ _ (c .before .before .before .before .before .same4 .ensures) (c .before .before .before .before .if4 .left) (word-on _ _ _ _ (c .before .before .same5 .ensures) (c .before .if5 .left) (c .later-operation .ensures)))))
 
 pub operation-spec : {M : Type 1} → statement M
 operation-spec =
@@ -124,22 +73,5 @@ operation-spec =
     slice-aggregate-same-5
     same-requires-5
     returns-5
-    slice-aggregate-same-6
-    same-requires-6
-    returns-6
-    slice-aggregate-same-7
-    same-requires-7
-    returns-7
-    slice-aggregate-same-8
-    same-requires-8
-    returns-8
-    slice-aggregate-same-9
-    same-requires-9
-    returns-9
-    slice-aggregate-same-10
-    same-requires-10
-    returns-10
-    slice-aggregate-same-11
-    same-requires-11
-    returns-11
-    returns-12)
+    later-operation-requires
+    returns-6)
