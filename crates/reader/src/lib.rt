@@ -7,7 +7,7 @@ use script::line_next;
 ghost use mathlib.Core.Path.{_≡_};
 ghost use Prim.Native.Nat.{_<_, _≤_};
 ghost use lib.ListN.{length};
-ghost use Rattle.reader.specs.Reading.{readAs, firstRead, laterRead, readerAt};
+ghost use Rattle.reader.specs.Reading.{saidAfter, readAt, readerAt};
 
 // What a line says, its number, and where the next starts.
 pub struct Read {
@@ -16,34 +16,28 @@ pub struct Read {
     pub next: usize,
 }
 
-// The line at a place, after so many: it says so.
-fn read_as(line: Line, text: &[u8], at: usize, number: usize) -> Read
-    requires { ⌜ (at ≤ length (now text)) × (number < 1000000) ⌝ }
-    ensures { λ r. ⌜ r ≡ readAs line (now (text .entry)) at number ⌝ }
+// What a line says after so many: the first says the heap, the others are over its m variables.
+fn said_after(line: &[u8], number: usize, m: usize) -> Line
+    ensures { λ r. ⌜ r ≡ saidAfter number m (now (line .entry)) ⌝ }
 {
+    if number == 0 {
+        first_line(line)
+    } else {
+        later_line(line, m)
+    }
+}
+
+// The line that starts at a place, after so many, over m variables.
+fn scan(text: &[u8], at: usize, number: usize, m: usize) -> Read
+    requires { ⌜ (at ≤ length (now text)) × (number < 1000000) ⌝ }
+    ensures { λ r. ⌜ r ≡ readAt m (now (text .entry)) at number ⌝ }
+{
+    let line = said_after(line_at(text, at), number, m);
     Read {
         line,
         number: number + 1,
         next: line_next(text, at),
     }
-}
-
-// The line at a place, after so many, read as line 1.
-fn scan_first(text: &[u8], at: usize, number: usize) -> Read
-    requires { ⌜ (at ≤ length (now text)) × (number < 1000000) ⌝ }
-    ensures { λ r. ⌜ r ≡ firstRead (now (text .entry)) at number ⌝ }
-{
-    let line = first_line(line_at(text, at));
-    read_as(line, text, at, number)
-}
-
-// The line at a place, after so many, read as a later line.
-fn scan_later(text: &[u8], at: usize, number: usize, m: usize) -> Read
-    requires { ⌜ (at ≤ length (now text)) × (number < 1000000) ⌝ }
-    ensures { λ r. ⌜ r ≡ laterRead m (now (text .entry)) at number ⌝ }
-{
-    let line = later_line(line_at(text, at), m);
-    read_as(line, text, at, number)
 }
 
 // The reader over the script's text, which keeps its place and its line number: how many lines it has read.
@@ -60,33 +54,18 @@ pub fn reader_at<'a>(text: &'a [u8], at: usize, number: usize) -> Reader<'a>
     Reader { text, at, number }
 }
 
-// What a reader reads as line 1.
-pub fn first<'a>(r: Reader<'a>) -> Read
+// What a reader reads, over m variables.
+pub fn next_line<'a>(r: Reader<'a>, m: usize) -> Read
     requires { ⌜ (r .at ≤ length (now (r .text))) × (r .number < 1000000) ⌝ }
-    ensures { λ s. ⌜ s ≡ firstRead (now (r .entry .text)) (r .entry .at) (r .entry .number) ⌝ }
+    ensures { λ s. ⌜ s ≡ readAt m (now (r .entry .text)) (r .entry .at) (r .entry .number) ⌝ }
 {
-    scan_first(r.text, r.at, r.number)
+    scan(r.text, r.at, r.number, m)
 }
 
-// What a reader reads as a later line, over m variables.
-pub fn later<'a>(r: Reader<'a>, m: usize) -> Read
-    requires { ⌜ (r .at ≤ length (now (r .text))) × (r .number < 1000000) ⌝ }
-    ensures { λ s. ⌜ s ≡ laterRead m (now (r .entry .text)) (r .entry .at) (r .entry .number) ⌝ }
-{
-    scan_later(r.text, r.at, r.number, m)
-}
-
-// Line 1 of a script.
-pub fn read_first(text: &[u8]) -> Read
-    ensures { λ r. ⌜ r ≡ firstRead (now (text .entry)) 0 0 ⌝ }
-{
-    first(reader_at(text, 0, 0))
-}
-
-// The line that starts at a place, after so many, over m variables.
-pub fn read_later(text: &[u8], at: usize, number: usize, m: usize) -> Read
+// The line that starts at a place of a script, after so many, over m variables: a reader's.
+pub fn read_line(text: &[u8], at: usize, number: usize, m: usize) -> Read
     requires { ⌜ (at ≤ length (now text)) × (number < 1000000) ⌝ }
-    ensures { λ r. ⌜ r ≡ laterRead m (now (text .entry)) at number ⌝ }
+    ensures { λ r. ⌜ r ≡ readAt m (now (text .entry)) at number ⌝ }
 {
-    later(reader_at(text, at, number), m)
+    next_line(reader_at(text, at, number), m)
 }

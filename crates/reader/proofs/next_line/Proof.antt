@@ -1,4 +1,4 @@
--- `reader::later` meets its contract: a walk of its MIR, by hand. The struct is taken apart, and `scan_later` is called on the slice and the numbers. All that the proof knows of `scan_later` is that it meets its contract.
+-- `reader::next_line` meets its contract: a walk of its MIR, by hand. The struct is taken apart, and `scan` is called on the slice and the numbers. All that the proof knows of `scan` is that it meets its contract.
 -- The struct is Copy: what it owns is had twice, one copy is kept whole for the exit, and of the other what text owns goes to the callee, beside the lifetime's token, which comes back.
 -- Assumes nothing.
 use mathlib.Core.Path.{_≡_, refl}
@@ -42,27 +42,27 @@ use denote.Triple.Table.{entered, cited}
 use denote.Triple.Walked.{says, needs, Stays, stay-none, walkOf, goes-none, Walks, ends-at, walked, walk-meets}
 use denote.Exit.{yes}
 use denote.Triple.Clauses.{ensured, lasts}
-use Rattle.reader.specs.Reading.{laterRead}
+use Rattle.reader.specs.Reading.{readAt}
 use Rattle.reader.specs.declared.Read.{Read}
 use Rattle.reader.specs.declared.Reader.{Reader}
 use Rattle.reader.proofs.Read as S
 use Rattle.reader.proofs.Read.Laws as S′
 use Rattle.reader.proofs.Reader as T
 use Rattle.reader.proofs.Reader.Laws as T′
-use Rattle.reader.proofs.scan_later as scan-later
-use Rattle.reader.proofs.scan_later.Symbol as scan-later-def
-use Rattle.reader.proofs.scan_later.Symbol.{name as #reader·scan-later}
-use Rattle.reader.proofs.scan_later.Met as scan-later-thm
-use Rattle.reader.proofs.later.Key.{name as #reader·later}
-use Rattle.reader.proofs.later as later
-use Rattle.reader.proofs.later.Statement as stated
-use Rattle.reader.proofs.later.Code as code
+use Rattle.reader.proofs.scan as scan
+use Rattle.reader.proofs.scan.Symbol as scan-def
+use Rattle.reader.proofs.scan.Symbol.{name as #reader·scan}
+use Rattle.reader.proofs.scan.Met as scan-thm
+use Rattle.reader.proofs.next_line.Key.{name as #reader·next-line}
+use Rattle.reader.proofs.next_line as next-line
+use Rattle.reader.proofs.next_line.Statement as stated
+use Rattle.reader.proofs.next_line.Code as code
 
 -- the struct's type, over the signature's lifetimes
 abbrev B : Lfts 1 → RattleType
 B κs = T.the-row (namedLft 1 0 tt κs)
 
-abbrev stayed : Stays (later.ended .signature .params) (later.ended .kept)
+abbrev stayed : Stays (next-line.ended .signature .params) (next-line.ended .kept)
 stayed = (stay-none B yes, (stay-none (λ _. usize) yes, tt))
 
 -- what is asked of the struct
@@ -72,7 +72,7 @@ Fine d = (d .at ≤ length (now (d .text))) × (d .number < 1000000)
 module _ {M : Type 1} (𝓤 : URA M) (H : Heap 𝓤) (A : Atoms 𝓤) (mem : Memory → SProp 𝓤) (run : Routine → Fun 𝓤) where
   -- the contract that the proof cites
   abbrev Scan : Contract 𝓤
-  Scan = tripleOf 𝓤 H A scan-later.signature (scan-later.spec 𝓤 H A mem run)
+  Scan = tripleOf 𝓤 H A scan.signature (scan.spec 𝓤 H A mem run)
 
 module _ {M : Type 1} (𝓤 : URA M) (H : Heap 𝓤) (A : Atoms 𝓤) (W : Given 𝓤 H A) (mem : Memory → SProp 𝓤) (run : Routine → Fun 𝓤) (κ : Lft) (q : Share) (d : Reader) (m : ℕ) (m-fits : m < 2 ^ 64) where
   abbrev mach : Val
@@ -83,13 +83,13 @@ module _ {M : Type 1} (𝓤 : URA M) (H : Heap 𝓤) (A : Atoms 𝓤) (W : Given
   v = sliceVal (d .text .ptr) (length (d .text .now))
 
   abbrev found : Read
-  found = laterRead m (now (d .text)) (d .at) (d .number)
+  found = readAt m (now (d .text)) (d .at) (d .number)
 
-  abbrev vals : Vals later.signature (κ, tt)
+  abbrev vals : Vals next-line.signature (κ, tt)
   vals = (mach ∷ [], (vint w64 m ∷ [], tt))
 
   abbrev Post : Val → SProp 𝓤
-  Post = walkOf 𝓤 H A later.ended stayed (later.clauses 𝓤 H A mem run) .post (((κ, tt), (q, tt), tt, (d, (m, tt)), vals), tt)
+  Post = walkOf 𝓤 H A next-line.ended stayed (next-line.clauses 𝓤 H A mem run) .post (((κ, tt), (q, tt), tt, (d, (m, tt)), vals), tt)
 
   abbrev Own : Fml
   Own = B (κ, tt) .own d (mach ∷ [])
@@ -105,17 +105,17 @@ module _ {M : Type 1} (𝓤 : URA M) (H : Heap 𝓤) (A : Atoms 𝓤) (W : Given
   vd = (d .text, (d .at, (d .number, tt)))
 
   -- what the callee is passed
-  abbrev passed : Vals scan-later.signature (κ, tt)
+  abbrev passed : Vals scan.signature (κ, tt)
   passed = (v ∷ [], (vint w64 (d .at) ∷ [], (vint w64 (d .number) ∷ [], (vint w64 m ∷ [], tt))))
 
   abbrev to : Scan 𝓤 H A mem run .Ghost
   to = (((κ, tt), (q, tt), tt, (d .text, (d .at, (d .number, (m, tt)))), passed), tt)
 
-  asked : Fine d → ent 𝓤 (onEntry 𝓤 H A scan-later.signature (κ, tt) (q, tt) (d .text, (d .at, (d .number, (m, tt)))) passed) (Scan 𝓤 H A mem run .pre to)
+  asked : Fine d → ent 𝓤 (onEntry 𝓤 H A scan.signature (κ, tt) (q, tt) (d .text, (d .at, (d .number, (m, tt)))) passed) (Scan 𝓤 H A mem run .pre to)
   asked fine = qed W ((‵ (flft κ q) ⊛ ‵ ftrue) ∷ ‵ (owns (ShrSlice (named 0) κ u8 ∷ usize ∷ usize ∷ usize ∷ []) (d .text, (d .at, (d .number, (m, tt)))) passed) ∷ []) ∵ says ! fine $ frame ! $ done !
 
   -- what the struct owns gives what the callee asks, and is kept
-  apart : Fine d → d .at < 2 ^ 64 → d .number < 2 ^ 64 → ent 𝓤 (onEntry 𝓤 H A later.signature (κ, tt) (q, tt) (d, (m, tt)) vals) (sep 𝓤 (Scan 𝓤 H A mem run .pre to) (sem 𝓤 H A Own))
+  apart : Fine d → d .at < 2 ^ 64 → d .number < 2 ^ 64 → ent 𝓤 (onEntry 𝓤 H A next-line.signature (κ, tt) (q, tt) (d, (m, tt)) vals) (sep 𝓤 (Scan 𝓤 H A mem run .pre to) (sem 𝓤 H A Own))
   apart fine at-fits number-fits =
       qed W ((‵ (flft κ q) ⊛ ‵ ftrue) ∷ ‵ (owns (B (κ, tt) ∷ usize ∷ []) (d, (m, tt)) vals) ∷ []) ∵
       move ! (1 ∷ []) $ fsplit ! $ move ! (1 ∷ []) $ drop ! $ use1 W (‵ Own ⊛ ‵ Own) (LL.copy D (T′.the-copy (namedLft 1 0 tt (κ, tt))) 𝓤 H A W .twice d (mach ∷ [])) $ split ! $
@@ -128,26 +128,26 @@ module _ {M : Type 1} (𝓤 : URA M) (H : Heap 𝓤) (A : Atoms 𝓤) (W : Given
       move ! (2 ∷ 0 ∷ []) $ use2 W (raw (Scan 𝓤 H A mem run .pre to)) (asked fine) $ frame ! $ done !)
 
   -- of the callee's `ensured`, the clause alone: it has no `&mut`, so what is said of last values is dropped
-  said : (r : Read) → ent 𝓤 (ensured 𝓤 H A scan-later.ended (scan-later.clauses 𝓤 H A mem run) (κ, tt) (d .text, (d .at, (d .number, (m, tt)))) tt r) (fact 𝓤 (r ≡ found))
-  said r = exE 𝓤 _ (λ ws. snd∗ 𝓤 (sem 𝓤 H A (lasts scan-later.ended (κ, tt) (d .text, (d .at, (d .number, (m, tt)))) ws)) (fact 𝓤 (r ≡ found)))
+  said : (r : Read) → ent 𝓤 (ensured 𝓤 H A scan.ended (scan.clauses 𝓤 H A mem run) (κ, tt) (d .text, (d .at, (d .number, (m, tt)))) tt r) (fact 𝓤 (r ≡ found))
+  said r = exE 𝓤 _ (λ ws. snd∗ 𝓤 (sem 𝓤 H A (lasts scan.ended (κ, tt) (d .text, (d .at, (d .number, (m, tt)))) ws)) (fact 𝓤 (r ≡ found)))
 
   exits : (r : Read) (u : Val) → r ≡ found → ent 𝓤 (⋆ 𝓤 H A (‵ (S.the-row .own r (u ∷ [])) ∷ (‵ (flft κ q) ⊛ ‵ ftrue) ∷ ‵ Own ∷ [])) (Post u)
   exits r u e =
       qed W (‵ (S.the-row .own r (u ∷ [])) ∷ (‵ (flft κ q) ⊛ ‵ ftrue) ∷ ‵ Own ∷ []) ∵
-      suffices ! _ (ends-at 𝓤 H A later.ended stayed (later.clauses 𝓤 H A mem run) W (((κ, tt), (q, tt), tt, (d, (m, tt)), vals), tt) u r (tt, (tt, tt)) (tt, (tt, tt))) $ says ! e $
+      suffices ! _ (ends-at 𝓤 H A next-line.ended stayed (next-line.clauses 𝓤 H A mem run) W (((κ, tt), (q, tt), tt, (d, (m, tt)), vals), tt) u r (tt, (tt, tt)) (tt, (tt, tt))) $ says ! e $
       move ! (1 ∷ []) $ frame ! $ nothing ! $ owned ! usize (Is usize) (uint-makes 𝓤 H A W w64) m _ (refl, m-fits) $ fjoin ! $ move ! (2 ∷ 0 ∷ []) $ fjoin ! $ frame ! $ done !
 
-  module _ (C : Calls 𝓤 H) (Λ : Loops 𝓤 H) (fm : FmC 𝓤 H (W .laws) C) (known : Triple 𝓤 (C #reader·scan-later) (Scan 𝓤 H A mem run)) where
-    walk : Fine d → Holds (hasTy (T′.mir (named 0)) mach) × WT mach → ent 𝓤 (onEntry 𝓤 H A later.signature (κ, tt) (q, tt) (d, (m, tt)) vals) (WpFn 𝓤 H C Λ code.function (mach ∷ vint w64 m ∷ []) Post)
+  module _ (C : Calls 𝓤 H) (Λ : Loops 𝓤 H) (fm : FmC 𝓤 H (W .laws) C) (known : Triple 𝓤 (C #reader·scan) (Scan 𝓤 H A mem run)) where
+    walk : Fine d → Holds (hasTy (T′.mir (named 0)) mach) × WT mach → ent 𝓤 (onEntry 𝓤 H A next-line.signature (κ, tt) (q, tt) (d, (m, tt)) vals) (WpFn 𝓤 H C Λ code.function (mach ∷ vint w64 m ∷ []) Post)
     walk fine wt =
-        qed W (raw (onEntry 𝓤 H A later.signature (κ, tt) (q, tt) (d, (m, tt)) vals) ∷ []) ∵ enter ! C Λ code.function (mach ∷ vint w64 m ∷ []) _ $
+        qed W (raw (onEntry 𝓤 H A next-line.signature (κ, tt) (q, tt) (d, (m, tt)) vals) ∷ []) ∵ enter ! C Λ code.function (mach ∷ vint w64 m ∷ []) _ $
         alloc1 ! (λ l₀. alloc1 ! (λ l₁. alloc1 ! (λ l₂. alloc1 ! (λ l₃. alloc1 ! (λ l₄. alloc1 ! (λ l₅. alloc0 ! $ params1 ! $ pass1 ! (init ! 8 refl wt) $ pass1 ! (init ! 6 refl (tt, record { fits = m-fits })) $ pass0 ! $
         assigns ! (of-opd ! (load ! (from ! (fld ! refl (stop !))) (look-in ! 8 (sub ! 0 refl (whole !))))) (from ! (stop !)) (init ! 4 refl (tt, wt .1 .0)) $
         assigns ! (of-opd ! (load ! (from ! (fld ! refl (stop !))) (look-in ! 8 (sub ! 1 refl (whole !))))) (from ! (stop !)) (init ! 2 refl (tt, wt .1 .1 .0)) $
         assigns ! (of-opd ! (load ! (from ! (fld ! refl (stop !))) (look-in ! 8 (sub ! 2 refl (whole !))))) (from ! (stop !)) (init ! 0 refl (tt, wt .1 .1 .1 .0)) $
         move ! (12 ∷ []) $ use1 W (raw (Scan 𝓤 H A mem run .pre to) ⊛ ‵ Own) (apart fine (wt .1 .1 .0 .fits) (wt .1 .1 .1 .0 .fits)) $ split ! $
         calls-at ! fm (Scan 𝓤 H A mem run) known to (and-then ! (load ! (from ! (stop !)) (look ! 6 refl)) (and-then ! (load ! (from ! (stop !)) (look ! 4 refl)) (and-then ! (load ! (from ! (stop !)) (look ! 2 refl)) (and-then ! (load ! (from ! (stop !)) (look ! 8 refl)) (no-more !))))) (λ u.
-        use1 W (after (some (λ (r : Read). ((‵ (flft κ q) ⊛ ‵ ftrue) ⊛ ‵ (S.the-row .own r (u ∷ []))) ⊛ raw (ensured 𝓤 H A scan-later.ended (scan-later.clauses 𝓤 H A mem run) (κ, tt) (d .text, (d .at, (d .number, (m, tt)))) tt r)))) (id⊢ 𝓤 _) $ await ! tt $ pick ! (λ r.
+        use1 W (after (some (λ (r : Read). ((‵ (flft κ q) ⊛ ‵ ftrue) ⊛ ‵ (S.the-row .own r (u ∷ []))) ⊛ raw (ensured 𝓤 H A scan.ended (scan.clauses 𝓤 H A mem run) (κ, tt) (d .text, (d .at, (d .number, (m, tt)))) tt r)))) (id⊢ 𝓤 _) $ await ! tt $ pick ! (λ r.
         split ! $ move ! (1 ∷ []) $ use1 W (raw (fact 𝓤 (r ≡ found))) (said r) $ heard ! (r ≡ found) (λ e. split ! $ move ! (1 ∷ []) $
         -- [the result; the token; what the struct owns; _5; …; _4; …; _3; …; _2; …; _1; …; room for _0; …]
         peeks ! S.the-row (Is S.the-row) (shows 𝓤 H A S.the-row) r (u ∷ []) (λ is.
@@ -156,21 +156,21 @@ module _ {M : Type 1} (𝓤 : URA M) (H : Heap 𝓤) (A : Atoms 𝓤) (W : Given
         move ! (13 ∷ 14 ∷ []) $ free1 ! $ move ! (11 ∷ 12 ∷ []) $ free1 ! $ move ! (9 ∷ 10 ∷ []) $ free1 ! $ move ! (7 ∷ 8 ∷ []) $ free1 ! $ move ! (5 ∷ 6 ∷ []) $ free1 ! $ move ! (3 ∷ 4 ∷ []) $ free1 ! $ free0 ! $ by ! (exits r u e)))))))))))
 
 module _ {M : Type 1} (𝓤 : URA M) (H : Heap 𝓤) (A : Atoms 𝓤) (W : Given 𝓤 H A) (mem : Memory → SProp 𝓤) (run : Routine → Fun 𝓤) where
-  later-walks : (C : Calls 𝓤 H) (Λ : Loops 𝓤 H) → FmC 𝓤 H (W .laws) C → Triple 𝓤 (C #reader·scan-later) (Scan 𝓤 H A mem run)
-      → Walks 𝓤 H A later.ended stayed (WpFn 𝓤 H C Λ code.function) (later.clauses 𝓤 H A mem run)
-  later-walks C Λ fm known = walked 𝓤 H A later.ended stayed (later.clauses 𝓤 H A mem run) (WpFn 𝓤 H C Λ code.function) (λ κs. (LL.vals (T.the-type (namedLft 1 0 tt κs)) (T′.the-laws (namedLft 1 0 tt κs)), (uint-vals w64, tt))) (λ κs. (LL.tells (T.the-type (namedLft 1 0 tt κs)) (T′.the-laws (namedLft 1 0 tt κs)), (uint-tells w64, tt)))
+  next-line-walks : (C : Calls 𝓤 H) (Λ : Loops 𝓤 H) → FmC 𝓤 H (W .laws) C → Triple 𝓤 (C #reader·scan) (Scan 𝓤 H A mem run)
+      → Walks 𝓤 H A next-line.ended stayed (WpFn 𝓤 H C Λ code.function) (next-line.clauses 𝓤 H A mem run)
+  next-line-walks C Λ fm known = walked 𝓤 H A next-line.ended stayed (next-line.clauses 𝓤 H A mem run) (WpFn 𝓤 H C Λ code.function) (λ κs. (LL.vals (T.the-type (namedLft 1 0 tt κs)) (T′.the-laws (namedLft 1 0 tt κs)), (uint-vals w64, tt))) (λ κs. (LL.tells (T.the-type (namedLft 1 0 tt κs)) (T′.the-laws (namedLft 1 0 tt κs)), (uint-tells w64, tt)))
       (λ κs qs bounds a g are. needs 𝓤 (Fine (a .0)) _ (λ fine. walk 𝓤 H A W mem run (κs .0) (qs .0) (a .0) (a .1 .0) (are .1 .0 .1) C Λ fm known fine (LL.lawful (T.the-type (namedLft 1 0 tt κs)) (T′.the-laws (namedLft 1 0 tt κs)) 𝓤 H A W .typed (a .0) _ (are .0) .0)))
 
-later-meets : {M : Type 1} (𝓤 : URA M) (H : Heap 𝓤) (A : Atoms 𝓤) (W : Given 𝓤 H A) (mem : Memory → SProp 𝓤) (run : Routine → Fun 𝓤) (𝓣 : Tables 𝓤 H)
-    → Triple 𝓤 (𝓣 .C #reader·scan-later) (Scan 𝓤 H A mem run)
-    → Meets 𝓤 H A later.signature (WpFn 𝓤 H (𝓣 .C) (𝓣 .Λ) code.function) (later.spec 𝓤 H A mem run)
-later-meets 𝓤 H A W mem run 𝓣 known = walk-meets 𝓤 H A later.ended stayed W (goes-none 𝓤 H A W 1 B yes (λ κs x f. refl), (goes-none 𝓤 H A W 1 (λ _. usize) yes (λ κs x f. refl), tt)) (later.clauses 𝓤 H A mem run) (WpFn 𝓤 H (𝓣 .C) (𝓣 .Λ) code.function) (WpFn-mono 𝓤 H (W .laws) 𝓣 code.function)
-    (later-walks 𝓤 H A W mem run (𝓣 .C) (𝓣 .Λ) (fmOf 𝓤 H (W .laws) 𝓣) known)
+next-line-meets : {M : Type 1} (𝓤 : URA M) (H : Heap 𝓤) (A : Atoms 𝓤) (W : Given 𝓤 H A) (mem : Memory → SProp 𝓤) (run : Routine → Fun 𝓤) (𝓣 : Tables 𝓤 H)
+    → Triple 𝓤 (𝓣 .C #reader·scan) (Scan 𝓤 H A mem run)
+    → Meets 𝓤 H A next-line.signature (WpFn 𝓤 H (𝓣 .C) (𝓣 .Λ) code.function) (next-line.spec 𝓤 H A mem run)
+next-line-meets 𝓤 H A W mem run 𝓣 known = walk-meets 𝓤 H A next-line.ended stayed W (goes-none 𝓤 H A W 1 B yes (λ κs x f. refl), (goes-none 𝓤 H A W 1 (λ _. usize) yes (λ κs x f. refl), tt)) (next-line.clauses 𝓤 H A mem run) (WpFn 𝓤 H (𝓣 .C) (𝓣 .Λ) code.function) (WpFn-mono 𝓤 H (W .laws) 𝓣 code.function)
+    (next-line-walks 𝓤 H A W mem run (𝓣 .C) (𝓣 .Λ) (fmOf 𝓤 H (W .laws) 𝓣) known)
 
-pub later-spec : {M : Type 1} → stated.statement M
+pub next-line-spec : {M : Type 1} → stated.statement M
 unfolding code.routine tablesOf
-later-spec 𝓤 H 𝓜 𝓖 𝓡 =
-    entered 𝓤 H (tripleOf 𝓤 H (𝓖 .A) later.signature (later.spec 𝓤 H (𝓖 .A) (𝓜 .mem) (𝓡 .run)))
-    (tables 𝓤 H 𝓜 𝓡 code.env .C) (tables 𝓤 H 𝓜 𝓡 code.env .Λ) #reader·later code.function (code.unfolded 𝓤 H 𝓜 𝓡)
-    (later-meets 𝓤 H (𝓖 .A) (givenOf 𝓤 H 𝓜 𝓖) (𝓜 .mem) (𝓡 .run) (tablesOf 𝓤 H 𝓜 (tables 𝓤 H 𝓜 𝓡 code.env))
-    (cited 𝓤 H (Scan 𝓤 H (𝓖 .A) (𝓜 .mem) (𝓡 .run)) 𝓜 𝓡 code.env #reader·scan-later scan-later-def.routine code.calls-reader·scan-later (scan-later-thm.met 𝓤 H 𝓜 𝓖 𝓡)))
+next-line-spec 𝓤 H 𝓜 𝓖 𝓡 =
+    entered 𝓤 H (tripleOf 𝓤 H (𝓖 .A) next-line.signature (next-line.spec 𝓤 H (𝓖 .A) (𝓜 .mem) (𝓡 .run)))
+    (tables 𝓤 H 𝓜 𝓡 code.env .C) (tables 𝓤 H 𝓜 𝓡 code.env .Λ) #reader·next-line code.function (code.unfolded 𝓤 H 𝓜 𝓡)
+    (next-line-meets 𝓤 H (𝓖 .A) (givenOf 𝓤 H 𝓜 𝓖) (𝓜 .mem) (𝓡 .run) (tablesOf 𝓤 H 𝓜 (tables 𝓤 H 𝓜 𝓡 code.env))
+    (cited 𝓤 H (Scan 𝓤 H (𝓖 .A) (𝓜 .mem) (𝓡 .run)) 𝓜 𝓡 code.env #reader·scan scan-def.routine code.calls-reader·scan (scan-thm.met 𝓤 H 𝓜 𝓖 𝓡)))
