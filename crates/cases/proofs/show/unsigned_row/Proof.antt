@@ -1,33 +1,36 @@
 -- Nothing has to hold from turn to turn; the place nears the row's end.
 use Prim.Native.Nat.{_-_}
-use borrow.Author.Needs.{needs}
 use lib.ListN.{length}
+use borrow.Author.Needs.{needs}
 use Rattle.cases.proofs.show.unsigned_row.Statement.{statement}
 use Rattle.cases.proofs.show.unsigned_row.Tie as tie
 
 abbrev Inv-loop : tie.InvT-loop
-Inv-loop name row i₀ t4 i = Unit {0}
+Inv-loop name row i₀ t4 t5 i = Unit {0}
 
 abbrev μ-loop : tie.MeasureT-loop
-μ-loop name row i₀ t4 i = length row - i
+μ-loop name row i₀ t4 t5 i = length row - i
 
-put-requires : tie.Need-put-requires Inv-loop μ-loop
-put-requires c κs = search needs
+text-requires : tie.Need-text-requires Inv-loop μ-loop
+text-requires c κs = search needs
 
 loop-holds : tie.Need-loop-holds Inv-loop μ-loop
 loop-holds c = search needs
 
-mul-of-word : tie.Need-mul-of-word Inv-loop μ-loop
-mul-of-word c = search needs
+slice-aggregate-text : tie.Need-slice-aggregate-text Inv-loop μ-loop
+slice-aggregate-text c = search needs
 
-shared-slice-read-of-word : tie.Need-shared-slice-read-of-word Inv-loop μ-loop
-shared-slice-read-of-word c = search needs
+text-requires-2 : tie.Need-text-requires-2 Inv-loop μ-loop
+text-requires-2 c κs = search needs
 
-of-word-requires : tie.Need-of-word-requires Inv-loop μ-loop
-of-word-requires c κs = search needs
+mul-word : tie.Need-mul-word Inv-loop μ-loop
+mul-word c = search needs
 
-number-requires : tie.Need-number-requires Inv-loop μ-loop
-number-requires c κs = search needs
+shared-slice-read-word : tie.Need-shared-slice-read-word Inv-loop μ-loop
+shared-slice-read-word c = search needs
+
+word-requires : tie.Need-word-requires Inv-loop μ-loop
+word-requires c κs = search needs
 
 add-i : tie.Need-add-i Inv-loop μ-loop
 add-i c = search needs
@@ -38,11 +41,11 @@ loop-less c = search needs
 loop-again : tie.Need-loop-again Inv-loop μ-loop
 loop-again c = search needs
 
-slice-aggregate-put : tie.Need-slice-aggregate-put Inv-loop μ-loop
-slice-aggregate-put c = search needs
+slice-aggregate-text-2 : tie.Need-slice-aggregate-text-2 Inv-loop μ-loop
+slice-aggregate-text-2 c = search needs
 
-put-requires-2 : tie.Need-put-requires-2 Inv-loop μ-loop
-put-requires-2 c κs = search needs
+text-requires-3 : tie.Need-text-requires-3 Inv-loop μ-loop
+text-requires-3 c κs = search needs
 
 returns : tie.Need-returns Inv-loop μ-loop
 returns c = search needs
@@ -53,15 +56,16 @@ unsigned-row-spec =
     (tie.spec
     Inv-loop
     μ-loop
-    put-requires
+    text-requires
     loop-holds
-    mul-of-word
-    shared-slice-read-of-word
-    of-word-requires
-    number-requires
+    slice-aggregate-text
+    text-requires-2
+    mul-word
+    shared-slice-read-word
+    word-requires
     add-i
     loop-less
     loop-again
-    slice-aggregate-put
-    put-requires-2
+    slice-aggregate-text-2
+    text-requires-3
     returns)
