@@ -64,21 +64,6 @@ pub fn next_line(text: &[u8], from: usize) -> usize
     at
 }
 
-// The place of the next line of lengths, or the text's end.
-pub fn section_end(text: &[u8], from: usize) -> usize
-    requires { ⌜ from < length (now text) ⌝ }
-    ensures { λ r. ⌜ (from < r) × (r ≤ length (now (text .entry))) ⌝ }
-{
-    let mut at = next_line(text, from);
-    while at < text.len() {
-        if text[at] == b'r' {
-            return at;
-        }
-        at = next_line(text, at);
-    }
-    at
-}
-
 // Is this byte at this place of the line?
 fn is_at(line: &[u8], at: usize, byte: u8) -> bool {
     if at < line.len() {
@@ -212,14 +197,12 @@ pub fn head_line(line: &[u8], mut s: State) -> State {
     s
 }
 
-// r k v x z m c l w: the lengths, and rows of zeros. All are 0 where the text does not begin so.
-pub fn rows_line(text: &[u8], s: State) -> State {
+// r k v x z m c l w: the lengths, and rows of zeros.
+pub fn rows_line(line: &[u8], s: State) -> State {
     let mut w = [0usize; 8];
-    if is_at(text, 0, b'r') {
-        sizes(text, 1, &mut w);
-    }
-    let mut t = start();
+    sizes(line, 1, &mut w);
     let head = s.head;
+    let mut t = start();
     t.head = head;
     t.calls = s.calls;
     t.answers = s.answers;

@@ -1,4 +1,4 @@
-// The eight rows: made anew in each section, set and handed to the heap's entry points.
+// One line of the text: what it does to the eight rows, which it sets or hands to an entry point of the heap.
 ghost use Prim.Native.Nat.{_≤_};
 use crate::read;
 use crate::read::State;
@@ -13,20 +13,8 @@ pub fn clip(k: usize) -> usize
     if k < 130 { k } else { 130 }
 }
 
-// One section of the text, up to the next line of lengths: rows of zeros, and its lines.
-pub fn section(text: &[u8], s: State, calls: &mut [i32], answers: &mut [i32]) -> State {
-    let mut t = read::rows_line(text, s);
-    let mut at = 0;
-    while at < text.len() {
-        let end = read::next_line(text, at);
-        t = line(&text[at..end], t, calls, answers);
-        at = end;
-    }
-    t
-}
-
-// One line, with its end. The line of lengths has had its turn.
-fn line(line: &[u8], s: State, calls: &mut [i32], answers: &mut [i32]) -> State {
+// One line, with its end.
+pub fn line(line: &[u8], s: State, calls: &mut [i32], answers: &mut [i32]) -> State {
     if line.len() == 0 {
         return s;
     }
@@ -37,6 +25,7 @@ fn line(line: &[u8], s: State, calls: &mut [i32], answers: &mut [i32]) -> State 
             s
         }
         b'h' => read::head_line(line, s),
+        b'r' => read::rows_line(line, s),
         b's' => set(line, s),
         b'c' => read::calls_line(line, s, calls),
         b'a' => read::answers_line(line, s, answers),

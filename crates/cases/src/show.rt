@@ -27,18 +27,15 @@ pub fn outcome(o: Outcome) {
     print::text(b"\n");
 }
 
-fn byte_row(row: &[u8]) {
-    print::text(b"kinds");
+fn byte_row(name: &[u8], row: [u8; 130], size: usize) {
+    print::text(name);
+    let used = clip(size);
     let mut i = 0;
-    while i < row.len() {
-        number(of_byte(row[i]));
+    while i < used {
+        number(row[i] as usize);
         i += 1;
     }
     print::text(b"\n");
-}
-
-fn of_byte(x: u8) -> usize {
-    x as usize
 }
 
 fn signed_row(name: &[u8], row: &[i32]) {
@@ -53,12 +50,12 @@ fn signed_row(name: &[u8], row: &[i32]) {
     print::text(b"\n");
 }
 
-fn unsigned_row(name: &[u8], row: &[u32]) {
+fn unsigned_row(name: &[u8], row: [u32; 130], size: usize) {
     print::text(name);
+    let used = clip(size);
     let mut i = 0;
-    while i < row.len() {
-        print::text(b" ");
-        print::word(row[i]);
+    while i < used {
+        number(row[i] as usize);
         i += 1;
     }
     print::text(b"\n");
@@ -75,14 +72,14 @@ pub fn rows(s: State) {
     let counts = s.counts;
     let log = s.log;
     let work = s.work;
-    byte_row(&kinds[..clip(k[0])]);
+    byte_row(b"kinds", kinds, k[0]);
     signed_row(b"values", &values[..clip(k[1])]);
     signed_row(b"variables", &variables[..clip(k[2])]);
-    unsigned_row(b"zct", &zct[..clip(k[3])]);
-    unsigned_row(b"mrt", &mrt[..clip(k[4])]);
-    unsigned_row(b"counts", &counts[..clip(k[5])]);
-    unsigned_row(b"log", &log[..clip(k[6])]);
-    unsigned_row(b"work", &work[..clip(k[7])]);
+    unsigned_row(b"zct", zct, k[3]);
+    unsigned_row(b"mrt", mrt, k[4]);
+    unsigned_row(b"counts", counts, k[5]);
+    unsigned_row(b"log", log, k[6]);
+    unsigned_row(b"work", work, k[7]);
 }
 
 // The answers, as far as they are used.

@@ -1,36 +1,35 @@
--- Nothing has to hold from turn to turn; the place nears the row's end.
+-- Nothing has to hold from turn to turn; the place nears the last that is used.
 use Prim.Native.Nat.{_-_}
-use lib.ListN.{length}
 use borrow.Author.Needs.{needs}
 use Rattle.cases.proofs.show.unsigned_row.Statement.{statement}
 use Rattle.cases.proofs.show.unsigned_row.Tie as tie
 
 abbrev Inv-loop : tie.InvT-loop
-Inv-loop name row i₀ t4 t5 i = Unit {0}
+Inv-loop name size row used i₀ t7 i = Unit {0}
 
 abbrev μ-loop : tie.MeasureT-loop
-μ-loop name row i₀ t4 t5 i = length row - i
+μ-loop name size row used i₀ t7 i = used - i
 
 text-requires : tie.Need-text-requires Inv-loop μ-loop
 text-requires c κs = search needs
 
+clip-requires : tie.Need-clip-requires Inv-loop μ-loop
+clip-requires c κs = search needs
+
 loop-holds : tie.Need-loop-holds Inv-loop μ-loop
 loop-holds c = search needs
 
-slice-aggregate-text : tie.Need-slice-aggregate-text Inv-loop μ-loop
-slice-aggregate-text c = search needs
+mul-number : tie.Need-mul-number Inv-loop μ-loop
+mul-number c = search needs
 
-text-requires-2 : tie.Need-text-requires-2 Inv-loop μ-loop
-text-requires-2 c κs = search needs
+array-read-number : tie.Need-array-read-number Inv-loop μ-loop
+array-read-number c = search needs
 
-mul-word : tie.Need-mul-word Inv-loop μ-loop
-mul-word c = search needs
+cast-number : tie.Need-cast-number Inv-loop μ-loop
+cast-number c = search needs
 
-shared-slice-read-word : tie.Need-shared-slice-read-word Inv-loop μ-loop
-shared-slice-read-word c = search needs
-
-word-requires : tie.Need-word-requires Inv-loop μ-loop
-word-requires c κs = search needs
+number-requires : tie.Need-number-requires Inv-loop μ-loop
+number-requires c κs = search needs
 
 add-i : tie.Need-add-i Inv-loop μ-loop
 add-i c = search needs
@@ -41,11 +40,11 @@ loop-less c = search needs
 loop-again : tie.Need-loop-again Inv-loop μ-loop
 loop-again c = search needs
 
-slice-aggregate-text-2 : tie.Need-slice-aggregate-text-2 Inv-loop μ-loop
-slice-aggregate-text-2 c = search needs
+slice-aggregate-text : tie.Need-slice-aggregate-text Inv-loop μ-loop
+slice-aggregate-text c = search needs
 
-text-requires-3 : tie.Need-text-requires-3 Inv-loop μ-loop
-text-requires-3 c κs = search needs
+text-requires-2 : tie.Need-text-requires-2 Inv-loop μ-loop
+text-requires-2 c κs = search needs
 
 returns : tie.Need-returns Inv-loop μ-loop
 returns c = search needs
@@ -57,15 +56,15 @@ unsigned-row-spec =
     Inv-loop
     μ-loop
     text-requires
+    clip-requires
     loop-holds
-    slice-aggregate-text
-    text-requires-2
-    mul-word
-    shared-slice-read-word
-    word-requires
+    mul-number
+    array-read-number
+    cast-number
+    number-requires
     add-i
     loop-less
     loop-again
-    slice-aggregate-text-2
-    text-requires-3
+    slice-aggregate-text
+    text-requires-2
     returns)
