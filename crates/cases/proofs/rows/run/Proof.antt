@@ -8,7 +8,7 @@ array-read-clip : tie.Need-array-read-clip
 array-read-clip c = search needs
 
 clip-requires : tie.Need-clip-requires
-clip-requires c κs = search needs
+clip-requires c κs = tt
 
 array-borrow-prefix-kinds : tie.Need-array-borrow-prefix-kinds
 array-borrow-prefix-kinds c = let p = c .before .before .before .before .before .before .before .before .before .before in within _ (c .clip .result) (p .args .s .kinds) (p .good .1 .0 .1 .1 .1 .1 .1 .1 .0 .1 .0 .1) (c .clip .ensures)
@@ -20,7 +20,7 @@ array-read-clip-2 : tie.Need-array-read-clip-2
 array-read-clip-2 c = search needs
 
 clip-requires-2 : tie.Need-clip-requires-2
-clip-requires-2 c κs = search needs
+clip-requires-2 c κs = tt
 
 array-borrow-prefix-values : tie.Need-array-borrow-prefix-values
 array-borrow-prefix-values c = let p = c .before .before .before .before .before .before .before .before .before .before .before .before in within _ (c .clip2 .result) (p .args .s .values) (p .good .1 .0 .1 .1 .1 .1 .1 .1 .1 .0 .1 .0 .1) (c .clip2 .ensures)
@@ -32,7 +32,7 @@ array-read-clip-3 : tie.Need-array-read-clip-3
 array-read-clip-3 c = search needs
 
 clip-requires-3 : tie.Need-clip-requires-3
-clip-requires-3 c κs = search needs
+clip-requires-3 c κs = tt
 
 array-borrow-prefix-variables : tie.Need-array-borrow-prefix-variables
 array-borrow-prefix-variables c = let p = c .before .before .before .before .before .before .before .before .before .before .before .before .before .before in within _ (c .clip3 .result) (p .args .s .variables) (p .good .1 .0 .1 .1 .1 .1 .1 .1 .1 .1 .0 .1 .0 .1) (c .clip3 .ensures)
@@ -44,7 +44,7 @@ array-read-clip-4 : tie.Need-array-read-clip-4
 array-read-clip-4 c = search needs
 
 clip-requires-4 : tie.Need-clip-requires-4
-clip-requires-4 c κs = search needs
+clip-requires-4 c κs = tt
 
 array-borrow-prefix-zct : tie.Need-array-borrow-prefix-zct
 array-borrow-prefix-zct c = let p = c .before .before .before .before .before .before .before .before .before .before .before .before .before .before .before .before in within _ (c .clip4 .result) (p .args .s .zct) (p .good .1 .0 .1 .1 .1 .1 .1 .1 .1 .1 .1 .0 .1 .0 .1) (c .clip4 .ensures)
@@ -56,7 +56,7 @@ array-read-clip-5 : tie.Need-array-read-clip-5
 array-read-clip-5 c = search needs
 
 clip-requires-5 : tie.Need-clip-requires-5
-clip-requires-5 c κs = search needs
+clip-requires-5 c κs = tt
 
 array-borrow-prefix-mrt : tie.Need-array-borrow-prefix-mrt
 array-borrow-prefix-mrt c = let p = c .before .before .before .before .before .before .before .before .before .before .before .before .before .before .before .before .before .before in within _ (c .clip5 .result) (p .args .s .mrt) (p .good .1 .0 .1 .1 .1 .1 .1 .1 .1 .1 .1 .1 .0 .1 .0 .1) (c .clip5 .ensures)
@@ -68,7 +68,7 @@ array-read-clip-6 : tie.Need-array-read-clip-6
 array-read-clip-6 c = search needs
 
 clip-requires-6 : tie.Need-clip-requires-6
-clip-requires-6 c κs = search needs
+clip-requires-6 c κs = tt
 
 array-borrow-prefix-counts : tie.Need-array-borrow-prefix-counts
 array-borrow-prefix-counts c = let p = c .before .before .before .before .before .before .before .before .before .before .before .before .before .before .before .before .before .before .before .before in within _ (c .clip6 .result) (p .args .s .counts) (p .good .1 .0 .1 .1 .1 .1 .1 .1 .1 .1 .1 .1 .1 .0 .1 .0 .1) (c .clip6 .ensures)
@@ -80,7 +80,7 @@ array-read-clip-7 : tie.Need-array-read-clip-7
 array-read-clip-7 c = search needs
 
 clip-requires-7 : tie.Need-clip-requires-7
-clip-requires-7 c κs = search needs
+clip-requires-7 c κs = tt
 
 array-borrow-prefix-log : tie.Need-array-borrow-prefix-log
 array-borrow-prefix-log c = let p = c .before .before .before .before .before .before .before .before .before .before .before .before .before .before .before .before .before .before .before .before .before .before in within _ (c .clip7 .result) (p .args .s .log) (p .good .1 .0 .1 .1 .1 .1 .1 .1 .1 .1 .1 .1 .1 .1 .0 .1 .0 .1) (c .clip7 .ensures)
@@ -92,7 +92,7 @@ array-read-clip-8 : tie.Need-array-read-clip-8
 array-read-clip-8 c = search needs
 
 clip-requires-8 : tie.Need-clip-requires-8
-clip-requires-8 c κs = search needs
+clip-requires-8 c κs = tt
 
 array-borrow-prefix-work : tie.Need-array-borrow-prefix-work
 array-borrow-prefix-work c = let p = c .before .before .before .before .before .before .before .before .before .before .before .before .before .before .before .before .before .before .before .before .before .before .before .before in within _ (c .clip8 .result) (p .args .s .work) (p .good .1 .0 .1 .1 .1 .1 .1 .1 .1 .1 .1 .1 .1 .1 .1 .0 .1 .0 .1) (c .clip8 .ensures)
@@ -101,19 +101,19 @@ slice-aggregate-enter-8 : tie.Need-slice-aggregate-enter-8
 slice-aggregate-enter-8 c = let p = c .before .before .before .before .before .before .before .before .before .before .before .before .before .before .before .before .before .before .before .before .before .before .before .before .before in front _ (c .before .clip8 .result) (p .args .s .work) (p .good .1 .0 .1 .1 .1 .1 .1 .1 .1 .1 .1 .1 .1 .1 .1 .0 .1 .0 .1) (c .before .clip8 .ensures)
 
 enter-requires : tie.Need-enter-requires
-enter-requires c κs = search needs
+enter-requires c κs = tt
 
 outcome-requires : tie.Need-outcome-requires
-outcome-requires c κs = search needs
+outcome-requires c κs = tt
 
 rows-requires : tie.Need-rows-requires
-rows-requires c κs = search needs
+rows-requires c κs = tt
 
 same-length : tie.Need-same-length
 same-length c = search needs
 
 returns : tie.Need-returns
-returns c = search needs
+returns c = tt
 
 pub run-spec : {M : Type 1} → statement M
 run-spec =
