@@ -6,13 +6,13 @@ mod show;
 
 use libc::STDIN_FILENO;
 
-// The text section by section.
-fn sections(text: &[u8], calls: &mut [i32], answers: &mut [i32]) {
+// The text line by line.
+fn lines(text: &[u8], calls: &mut [i32], answers: &mut [i32]) {
     let mut s = read::start();
     let mut at = 0;
     while at < text.len() {
-        let end = read::section_end(text, at);
-        s = rows::section(&text[at..end], s, calls, answers);
+        let end = read::next_line(text, at);
+        s = rows::line(&text[at..end], s, calls, answers);
         at = end;
     }
 }
@@ -22,5 +22,5 @@ fn main() {
     let n = io::read_full(STDIN_FILENO, &mut text);
     let mut calls = [0i32; 1100];
     let mut answers = [0i32; 600];
-    sections(&text[..n], &mut calls, &mut answers);
+    lines(&text[..n], &mut calls, &mut answers);
 }

@@ -3,11 +3,21 @@ ghost use Prim.Native.Nat.{_≤_, _<_};
 ghost use lib.ListN.{length};
 use rules::Head;
 
-// What goes from line to line beside the rows: the head, and how much of the calls and of the answers is used.
+// What goes from line to line: the head, how much of the calls and of the answers is used, and the eight rows with
+// their lengths.
 pub struct State {
     pub head: Head,
     pub calls: usize,
     pub answers: usize,
+    pub sizes: [usize; 8],
+    pub kinds: [u8; 130],
+    pub values: [i32; 130],
+    pub variables: [i32; 130],
+    pub zct: [u32; 130],
+    pub mrt: [u32; 130],
+    pub counts: [u32; 130],
+    pub log: [u32; 130],
+    pub work: [u32; 130],
 }
 
 // A number that was read, and the place past it.
@@ -19,10 +29,23 @@ pub struct Numeral {
 
 pub fn start() -> State {
     let head = Head::fresh(0, 0, 0, 0);
+    let sizes = [0usize; 8];
+    let kinds = [0u8; 130];
+    let signed = [0i32; 130];
+    let unsigned = [0u32; 130];
     State {
         head: head,
         calls: 0,
         answers: 0,
+        sizes: sizes,
+        kinds: kinds,
+        values: signed,
+        variables: signed,
+        zct: unsigned,
+        mrt: unsigned,
+        counts: unsigned,
+        log: unsigned,
+        work: unsigned,
     }
 }
 
@@ -37,21 +60,6 @@ pub fn next_line(text: &[u8], from: usize) -> usize
             return at + 1;
         }
         at += 1;
-    }
-    at
-}
-
-// The place of the next line of lengths, or the text's end.
-pub fn section_end(text: &[u8], from: usize) -> usize
-    requires { ⌜ from < length (now text) ⌝ }
-    ensures { λ r. ⌜ (from < r) × (r ≤ length (now (text .entry))) ⌝ }
-{
-    let mut at = next_line(text, from);
-    while at < text.len() {
-        if text[at] == b'r' {
-            return at;
-        }
-        at = next_line(text, at);
     }
     at
 }
@@ -131,6 +139,21 @@ pub fn word(n: Numeral) -> i32 {
     if n.minus { 0 - up } else { up }
 }
 
+// The number as a byte, or as an unsigned word; what has more bits is the greatest.
+pub fn byte(n: Numeral) -> u8 {
+    let size = n.size;
+    if size < 256 { size as u8 } else { 255 }
+}
+
+pub fn unsigned(n: Numeral) -> u32 {
+    let size = n.size;
+    if size < 4294967296 {
+        size as u32
+    } else {
+        4294967295
+    }
+}
+
 // The row's numbers, from a place of the line on.
 fn sizes(line: &[u8], from: usize, out: &mut [usize]) {
     let mut at = from;
@@ -174,13 +197,17 @@ pub fn head_line(line: &[u8], mut s: State) -> State {
     s
 }
 
-// r k v x z m c l w: the lengths. All are 0 where the text does not begin so.
-pub fn lengths(text: &[u8]) -> [usize; 8] {
+// r k v x z m c l w: the lengths, and rows of zeros.
+pub fn rows_line(line: &[u8], s: State) -> State {
     let mut w = [0usize; 8];
-    if is_at(text, 0, b'r') {
-        sizes(text, 1, &mut w);
-    }
-    w
+    sizes(line, 1, &mut w);
+    let head = s.head;
+    let mut t = start();
+    t.head = head;
+    t.calls = s.calls;
+    t.answers = s.answers;
+    t.sizes = w;
+    t
 }
 
 // c WORDS.. or c+ WORDS..

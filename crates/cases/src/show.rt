@@ -1,114 +1,90 @@
 // Printing: an outcome, and the rows by their names.
-use libc::STDOUT_FILENO;
+use crate::read::State;
+use crate::rows::clip;
 use rules::Outcome;
 
-pub fn put(bytes: &[u8]) {
-    io::write_all(STDOUT_FILENO, bytes);
-}
-
 // A space and a number.
-fn number(n: u64) {
-    put(b" ");
-    io::print_decimal(STDOUT_FILENO, n);
-}
-
-fn size(n: usize) {
-    number(n as u64);
-}
-
-// A space and a signed number.
-fn signed(x: i32) {
-    if x < 0 {
-        put(b" -");
-        io::print_decimal(STDOUT_FILENO, far(x));
-    } else {
-        number(far(x));
-    }
-}
-
-// How far a signed number is from 0.
-fn far(x: i32) -> u64 {
-    if x < 0 {
-        let up = -1 - x;
-        return 1 + up as u64;
-    }
-    x as u64
+fn number(n: usize) {
+    print::text(b" ");
+    print::number(n);
 }
 
 // status, count and head
 pub fn outcome(o: Outcome) {
     let h = o.head;
-    put(b"status");
-    size(o.status);
-    put(b" count");
-    size(o.count);
-    put(b" head");
-    size(h.n);
-    size(h.m);
-    size(h.l);
-    size(h.cap);
-    size(h.free);
-    size(h.zct);
-    size(h.mrt);
-    put(b"\n");
+    print::text(b"status");
+    number(o.status);
+    print::text(b" count");
+    number(o.count);
+    print::text(b" head");
+    number(h.n);
+    number(h.m);
+    number(h.l);
+    number(h.cap);
+    number(h.free);
+    number(h.zct);
+    number(h.mrt);
+    print::text(b"\n");
 }
 
-// The eight rows, a line for each.
-pub fn rows(
-    kinds: &[u8],
-    values: &[i32],
-    variables: &[i32],
-    zct: &[u32],
-    mrt: &[u32],
-    counts: &[u32],
-    log: &[u32],
-    work: &[u32],
-) {
-    byte_row(kinds);
-    signed_row(b"values", values);
-    signed_row(b"variables", variables);
-    unsigned_row(b"zct", zct);
-    unsigned_row(b"mrt", mrt);
-    unsigned_row(b"counts", counts);
-    unsigned_row(b"log", log);
-    unsigned_row(b"work", work);
-}
-
-fn byte_row(row: &[u8]) {
-    put(b"kinds");
+fn byte_row(name: &[u8], row: [u8; 130], size: usize) {
+    print::text(name);
+    let used = clip(size);
     let mut i = 0;
-    while i < row.len() {
-        number(of_byte(row[i]));
+    while i < used {
+        number(row[i] as usize);
         i += 1;
     }
-    put(b"\n");
+    print::text(b"\n");
 }
 
-fn of_byte(x: u8) -> u64 {
-    x as u64
-}
-
-pub fn signed_row(name: &[u8], row: &[i32]) {
-    put(name);
+fn signed_row(name: &[u8], row: &[i32]) {
+    print::text(name);
     let mut i = 0;
     while i < row.len() {
         let x = row[i];
-        signed(x);
+        print::text(b" ");
+        print::signed(x);
         i += 1;
     }
-    put(b"\n");
+    print::text(b"\n");
 }
 
-fn unsigned_row(name: &[u8], row: &[u32]) {
-    put(name);
+fn unsigned_row(name: &[u8], row: [u32; 130], size: usize) {
+    print::text(name);
+    let used = clip(size);
     let mut i = 0;
-    while i < row.len() {
-        number(of_word(row[i]));
+    while i < used {
+        number(row[i] as usize);
         i += 1;
     }
-    put(b"\n");
+    print::text(b"\n");
 }
 
-fn of_word(x: u32) -> u64 {
-    x as u64
+// The eight rows, a line for each.
+pub fn rows(s: State) {
+    let k = s.sizes;
+    let kinds = s.kinds;
+    let values = s.values;
+    let variables = s.variables;
+    let zct = s.zct;
+    let mrt = s.mrt;
+    let counts = s.counts;
+    let log = s.log;
+    let work = s.work;
+    byte_row(b"kinds", kinds, k[0]);
+    signed_row(b"values", &values[..clip(k[1])]);
+    signed_row(b"variables", &variables[..clip(k[2])]);
+    unsigned_row(b"zct", zct, k[3]);
+    unsigned_row(b"mrt", mrt, k[4]);
+    unsigned_row(b"counts", counts, k[5]);
+    unsigned_row(b"log", log, k[6]);
+    unsigned_row(b"work", work, k[7]);
+}
+
+// The answers, as far as they are used.
+pub fn answers(used: usize, row: &[i32]) {
+    if used <= row.len() {
+        signed_row(b"answers", &row[..used]);
+    }
 }

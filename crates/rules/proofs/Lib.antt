@@ -30,3 +30,4 @@ pub mod EndlessRun
 pub mod AsEndless
 pub mod Demands
 pub mod Worthless
+pub mod Parts

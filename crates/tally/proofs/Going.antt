@@ -7,18 +7,12 @@ use mathlib.Core.List.{List}
 use lib.IntN.{ℤ}
 use lib.ListN.{length, take}
 use Rattle.tally.specs.declared.Place.{Place}
+use Rattle.tally.specs.declared.Rows.{Rows}
+use Rattle.tally.specs.Rows.{Sized}
 
--- the rows keep their lengths, and each call of a closed batch has had a line of its own
-pub record Going (kinds₀ : List ℕ) (values₀ variables₀ : List ℤ) (zct₀ mrt₀ counts₀ log₀ work₀ : List ℕ)
-    (kinds : List ℕ) (values variables : List ℤ) (zct mrt counts log work : List ℕ) (calls : List ℤ) (place : Place) : Type 0 where
-  pub kinds-length : length kinds ≡ length kinds₀
-  pub values-length : length values ≡ length values₀
-  pub variables-length : length variables ≡ length variables₀
-  pub zct-length : length zct ≡ length zct₀
-  pub mrt-length : length mrt ≡ length mrt₀
-  pub counts-length : length counts ≡ length counts₀
-  pub log-length : length log ≡ length log₀
-  pub work-length : length work ≡ length work₀
+-- the rows have room, and each call of a closed batch has had a line of its own
+pub record Going (rows : Rows) (calls : List ℤ) (place : Place) : Type 0 where
+  pub room : Sized rows
   pub calls-length : length calls ≡ 1024
   pub own : place .closed ≤ place .lines
   pub most : place .lines ≤ 1000000

@@ -1,1 +1,2 @@
 pub mod Place
+pub mod Rows

@@ -1,5 +1,5 @@
 -- What the reading of a batch leaves true of how far a script is read. Assumes nothing.
-use Prim.Native.Nat.{ℕ, _+_, _<_, _≤_}
+use Prim.Native.Nat.{_+_, _<_, _≤_}
 use Rattle.tally.specs.declared.Place.{Place}
 
 -- a line more is read, the batch is no larger than a batch may be, and each call has a line of its own

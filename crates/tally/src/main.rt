@@ -1,11 +1,10 @@
 // The text program: a script of calls from standard input, run on a heap; its answers and the heap at the end.
 ghost use mathlib.Core.Path.{_≡_};
 ghost use Prim.Native.Nat.{_+_, _<_, _≤_};
-ghost use lib.IntN.{natAbs};
 ghost use lib.ListN.{length};
 ghost use Rattle.tally.specs.Place.{Gathered};
+ghost use Rattle.tally.specs.Rows.{Sized};
 use libc::STDIN_FILENO;
-use libc::STDOUT_FILENO;
 use reader::Read;
 use rules::Head;
 use script::Line;
@@ -43,51 +42,40 @@ impl Place {
     }
 }
 
-fn print(s: &[u8]) {
-    io::write_all(STDOUT_FILENO, s);
-}
-
-fn print_number(n: usize) {
-    io::print_decimal(STDOUT_FILENO, n as u64);
-}
-
-fn print_word(x: u32) {
-    io::print_decimal(STDOUT_FILENO, x as u64);
-}
-
-// A number without its sign.
-fn size(x: i32) -> u64
-    ensures { λ r. ⌜ r ≡ natAbs x ⌝ }
-{
-    if x < 0 {
-        return (-1 - x) as u64 + 1;
-    }
-    x as u64
-}
-
-fn print_signed(x: i32) {
-    if x < 0 {
-        print(b"-");
-    }
-    io::print_decimal(STDOUT_FILENO, size(x));
+// A heap of n cells, m variables and l log entries: its head, its rows, of which the sizes say how much is used, and what the
+// last entry point answered.
+struct Rows {
+    n: usize,
+    m: usize,
+    l: usize,
+    status: usize,
+    head: Head,
+    kinds: [u8; 2048],
+    values: [i32; 2048],
+    variables: [i32; 64],
+    zct: [u32; 1024],
+    mrt: [u32; 1024],
+    counts: [u32; 1024],
+    log: [u32; 2048],
+    work: [u32; 1024],
 }
 
 // The line that ends a script that breaks the rules.
 fn print_bad(number: usize) {
-    print(b"bad ");
-    print_number(number);
-    print(b"\n");
+    print::text(b"bad ");
+    print::number(number);
+    print::text(b"\n");
 }
 
 // The line of call number `number`.
 fn print_answer(number: usize, status: i32, value: i32) {
-    print(b"a ");
-    print_number(number);
-    print(b" ");
-    print_signed(status);
-    print(b" ");
-    print_signed(value);
-    print(b"\n");
+    print::text(b"a ");
+    print::number(number);
+    print::text(b" ");
+    print::signed(status);
+    print::text(b" ");
+    print::signed(value);
+    print::text(b"\n");
 }
 
 // The lines of a batch's calls, of which the first is number first + 1.
@@ -103,9 +91,9 @@ fn print_answers(answers: &[i32; 512], count: usize, first: usize)
 
 // The line of a ZCT cell.
 fn print_zero(address: u32) {
-    print(b"z ");
-    print_word(address);
-    print(b"\n");
+    print::text(b"z ");
+    print::word(address);
+    print::text(b"\n");
 }
 
 // The z lines.
@@ -119,11 +107,11 @@ fn print_zct(zct: &[u32], used: usize) {
 
 // The line of an MRT cell.
 fn print_count(address: u32, count: u32) {
-    print(b"m ");
-    print_word(address);
-    print(b" ");
-    print_word(count);
-    print(b"\n");
+    print::text(b"m ");
+    print::word(address);
+    print::text(b" ");
+    print::word(count);
+    print::text(b"\n");
 }
 
 // The m lines.
@@ -140,15 +128,15 @@ fn print_mrt(mrt: &[u32], counts: &[u32], used: usize) {
 
 // The line of variable v, which holds x.
 fn print_variable(v: usize, x: i32) {
-    print(b"v ");
-    print_number(v);
-    print(b" ");
+    print::text(b"v ");
+    print::number(v);
+    print::text(b" ");
     if x < 0 {
-        print(b"-");
+        print::text(b"-");
     } else {
-        print_signed(x);
+        print::signed(x);
     }
-    print(b"\n");
+    print::text(b"\n");
 }
 
 // The v lines.
@@ -175,24 +163,28 @@ fn free_cells(kinds: &[u8]) -> usize {
 
 // The f line.
 fn print_free(n: usize) {
-    print(b"f ");
-    print_number(n);
-    print(b"\n");
+    print::text(b"f ");
+    print::number(n);
+    print::text(b"\n");
 }
 
 // The lines at the end.
-fn print_heap(
-    head: Head,
-    kinds: &[u8],
-    variables: &[i32],
-    zct: &[u32],
-    mrt: &[u32],
-    counts: &[u32],
-) {
-    print_zct(zct, head.zct);
-    print_mrt(mrt, counts, head.mrt);
-    print_variables(variables);
-    print_free(free_cells(kinds));
+fn print_heap(rows: Rows)
+    requires { ⌜ Sized rows ⌝ }
+{
+    let n = rows.n;
+    let m = rows.m;
+    let fields = 2 * n;
+    let head = rows.head;
+    let kinds = rows.kinds;
+    let variables = rows.variables;
+    let zct = rows.zct;
+    let mrt = rows.mrt;
+    let counts = rows.counts;
+    print_zct(&zct[..n], head.zct);
+    print_mrt(&mrt[..n], &counts[..n], head.mrt);
+    print_variables(&variables[..m]);
+    print_free(free_cells(&kinds[..fields]));
 }
 
 // Call number `i` of the open batch.
@@ -210,7 +202,7 @@ fn read_line(text: &[u8], at: usize, lines: usize, m: usize) -> Read
     requires { ⌜ (at ≤ length (now text)) × (lines < 1000000) ⌝ }
     ensures { λ r. ⌜ r .number ≡ lines + 1 ⌝ }
 {
-    reader::read_later(text, at, lines, m)
+    reader::read_line(text, at, lines, m)
 }
 
 // The lines up to the end of a batch: its calls, and how far the script is then read.
@@ -252,142 +244,10 @@ fn gather(text: &[u8], from: Place, m: usize, calls: &mut [i32]) -> Place
     }
 }
 
-// Runs a batch and prints its answers, which a refused batch has not; gives the head afterwards.
-fn close(
-    head: Head,
-    kinds: &mut [u8],
-    values: &mut [i32],
-    variables: &mut [i32],
-    zct: &mut [u32],
-    mrt: &mut [u32],
-    counts: &mut [u32],
-    log: &mut [u32],
-    work: &mut [u32],
-    calls: &[i32],
-    first: usize,
-) -> Head
-    requires { ⌜ (first ≤ 1000000) × (length (now calls) ≤ 1024) ⌝ }
-{
-    let mut answers = [0i32; 512];
-    let count = calls.len() / 4;
-    let words = 2 * count;
-    let done = heap::batch(
-        head,
-        kinds,
-        values,
-        variables,
-        zct,
-        mrt,
-        counts,
-        log,
-        work,
-        calls,
-        &mut answers[..words],
-    );
-    let next = done.head;
-    if done.status != 0 {
-        return next;
-    }
-    print_answers(&answers, count, first);
-    next
-}
-
-// The batches of a script; nothing after a bad line.
-fn run(
-    text: &[u8],
-    start: usize,
-    fresh: Head,
-    kinds: &mut [u8],
-    values: &mut [i32],
-    variables: &mut [i32],
-    zct: &mut [u32],
-    mrt: &mut [u32],
-    counts: &mut [u32],
-    log: &mut [u32],
-    work: &mut [u32],
-) {
-    let mut calls = [0i32; 1024];
-    let mut head = fresh;
-    let m = fresh.m;
-    let mut place = Place::new(start, 1, 0, 0, false);
-    while place.at < text.len() && place.lines < LINES_MOST {
-        place = gather(text, place, m, &mut calls);
-        if place.bad {
-            print_bad(place.lines);
-            return;
-        }
-        let words = 4 * place.calls;
-        head = close(
-            head,
-            kinds,
-            values,
-            variables,
-            zct,
-            mrt,
-            counts,
-            log,
-            work,
-            &calls[..words],
-            place.closed,
-        );
-        place.closed += place.calls;
-    }
-    print_heap(head, kinds, variables, zct, mrt, counts);
-}
-
-// A script on a heap of four numbers, its rows lent at their lengths.
-fn start(
-    text: &[u8],
-    next: usize,
-    n: usize,
-    m: usize,
-    l: usize,
-    cap: usize,
-    kinds: &mut [u8],
-    values: &mut [i32],
-    variables: &mut [i32],
-    zct: &mut [u32],
-    mrt: &mut [u32],
-    counts: &mut [u32],
-    log: &mut [u32],
-    work: &mut [u32],
-) {
-    let made = heap::fresh(
-        n,
-        m,
-        l,
-        cap,
-        kinds,
-        values,
-        variables,
-        zct,
-        mrt,
-        counts,
-        log,
-        work,
-    );
-    if made.status != 0 {
-        print_bad(1);
-        return;
-    }
-    run(
-        text,
-        next,
-        made.head,
-        kinds,
-        values,
-        variables,
-        zct,
-        mrt,
-        counts,
-        log,
-        work,
-    );
-}
-
-// A script on a heap of four numbers.
-fn with_rows(text: &[u8], next: usize, n: usize, m: usize, l: usize, cap: usize)
+// A fresh heap of four numbers, its rows lent at their lengths.
+fn fresh(n: usize, m: usize, l: usize, cap: usize) -> Rows
     requires { ⌜ (n ≤ 1024) × (m ≤ 64) × (l ≤ 1024) ⌝ }
+    ensures { λ r. ⌜ Sized r ⌝ }
 {
     let mut kinds = [0u8; 2048];
     let mut values = [0i32; 2048];
@@ -399,9 +259,7 @@ fn with_rows(text: &[u8], next: usize, n: usize, m: usize, l: usize, cap: usize)
     let mut work = [0u32; 1024];
     let fields = 2 * n;
     let entries = 2 * l;
-    start(
-        text,
-        next,
+    let made = heap::fresh(
         n,
         m,
         l,
@@ -415,16 +273,123 @@ fn with_rows(text: &[u8], next: usize, n: usize, m: usize, l: usize, cap: usize)
         &mut log[..entries],
         &mut work[..n],
     );
+    let head = made.head;
+    Rows {
+        n: n,
+        m: m,
+        l: l,
+        status: made.status,
+        head: head,
+        kinds: kinds,
+        values: values,
+        variables: variables,
+        zct: zct,
+        mrt: mrt,
+        counts: counts,
+        log: log,
+        work: work,
+    }
+}
+
+// A batch on the rows, each lent at its length.
+fn batch(mut rows: Rows, calls: &[i32], answers: &mut [i32]) -> Rows
+    requires { ⌜ Sized rows ⌝ }
+    ensures { λ r. ⌜ Sized r ⌝ }
+{
+    let n = rows.n;
+    let m = rows.m;
+    let fields = 2 * n;
+    let entries = 2 * rows.l;
+    let mut kinds = rows.kinds;
+    let mut values = rows.values;
+    let mut variables = rows.variables;
+    let mut zct = rows.zct;
+    let mut mrt = rows.mrt;
+    let mut counts = rows.counts;
+    let mut log = rows.log;
+    let mut work = rows.work;
+    let done = heap::batch(
+        rows.head,
+        &mut kinds[..fields],
+        &mut values[..fields],
+        &mut variables[..m],
+        &mut zct[..n],
+        &mut mrt[..n],
+        &mut counts[..n],
+        &mut log[..entries],
+        &mut work[..n],
+        calls,
+        answers,
+    );
+    let head = done.head;
+    rows.status = done.status;
+    rows.head = head;
+    rows.kinds = kinds;
+    rows.values = values;
+    rows.variables = variables;
+    rows.zct = zct;
+    rows.mrt = mrt;
+    rows.counts = counts;
+    rows.log = log;
+    rows.work = work;
+    rows
+}
+
+// Runs a batch and prints its answers, which a refused batch has not.
+fn close(rows: Rows, calls: &[i32], first: usize) -> Rows
+    requires { ⌜ (first ≤ 1000000) × (length (now calls) ≤ 1024) × Sized rows ⌝ }
+    ensures { λ r. ⌜ Sized r ⌝ }
+{
+    let mut answers = [0i32; 512];
+    let count = calls.len() / 4;
+    let words = 2 * count;
+    let next = batch(rows, calls, &mut answers[..words]);
+    if next.status == 0 {
+        print_answers(&answers, count, first);
+    }
+    next
+}
+
+// The batches of a script; nothing after a bad line.
+fn run(text: &[u8], start: usize, fresh: Rows)
+    requires { ⌜ Sized fresh ⌝ }
+{
+    let mut calls = [0i32; 1024];
+    let mut rows = fresh;
+    let m = fresh.m;
+    let mut place = Place::new(start, 1, 0, 0, false);
+    while place.at < text.len() && place.lines < LINES_MOST {
+        place = gather(text, place, m, &mut calls);
+        if place.bad {
+            print_bad(place.lines);
+            return;
+        }
+        let words = 4 * place.calls;
+        rows = close(rows, &calls[..words], place.closed);
+        place.closed += place.calls;
+    }
+    print_heap(rows);
+}
+
+// A script on a fresh heap.
+fn start(text: &[u8], next: usize, rows: Rows)
+    requires { ⌜ Sized rows ⌝ }
+{
+    if rows.status != 0 {
+        print_bad(1);
+        return;
+    }
+    run(text, next, rows);
 }
 
 // A script.
 fn tally(text: &[u8]) {
-    let read = reader::read_first(text);
+    let read = reader::read_line(text, 0, 0, 0);
     let line = read.line;
     if let Line::Heap(n, m, l, cap) = line {
         if n <= Head::CELLS_MOST && m <= Head::VARIABLES_MOST {
             if l <= Head::ENTRIES_MOST {
-                with_rows(text, read.next, n, m, l, cap);
+                start(text, read.next, fresh(n, m, l, cap));
                 return;
             }
         }

@@ -10,125 +10,99 @@ use Rattle.calls.proofs.check_one.Reads as check-one-reads
 use Rattle.calls.proofs.check_read.Reads as check-read-reads
 use Rattle.calls.proofs.check_two.Reads as check-two-reads
 
--- src/lib.rt:302:25
 enum-told : tie.Need-enum-told
 enum-told c = search needs
 
--- src/lib.rt:303:29
 enum-told-2 : tie.Need-enum-told-2
 enum-told-2 c = search needs
 
--- src/lib.rt:304:27
 enum-told-3 : tie.Need-enum-told-3
 enum-told-3 c = search needs
 
--- src/lib.rt:305:20
 enum-known-call : tie.Need-enum-known-call
 enum-known-call c = search needs
 
--- src/lib.rt:305:32
 check-two-requires : tie.Need-check-two-requires
 check-two-requires c κs = let k = rw (c .before .call .given .1) at (c .before .before .before .before .pre .named) in (k .0, k .1 .1)
 
--- src/lib.rt:306:19
 enum-known-call-2 : tie.Need-enum-known-call-2
 enum-known-call-2 c = search needs
 
--- src/lib.rt:306:31
 check-one-requires : tie.Need-check-one-requires
 check-one-requires c κs = let k = rw (c .before .call2 .given .1) at (c .before .before .before .before .pre .named) in k .0
 
--- src/lib.rt:307:21
 enum-known-call-3 : tie.Need-enum-known-call-3
 enum-known-call-3 c = search needs
 
--- src/lib.rt:307:30
 check-one-requires-2 : tie.Need-check-one-requires-2
 check-one-requires-2 c κs = let k = rw (c .before .call3 .given .1) at (c .before .before .before .before .pre .named) in k .0
 
--- src/lib.rt:308:22
 enum-known-call-4 : tie.Need-enum-known-call-4
 enum-known-call-4 c = search needs
 
--- src/lib.rt:308:34
 check-follow-requires : tie.Need-check-follow-requires
 check-follow-requires c κs = let k = rw (c .before .call4 .given .1) at (c .before .before .before .before .pre .named) in reach (c .before .before .before .before .pre) (k .0) (k .1 .0)
 
--- src/lib.rt:309:20
 enum-known-call-5 : tie.Need-enum-known-call-5
 enum-known-call-5 c = search needs
 
--- src/lib.rt:309:29
 check-read-requires : tie.Need-check-read-requires
 check-read-requires c κs = let k = rw (c .before .call5 .given .1) at (c .before .before .before .before .pre .named) in reach (c .before .before .before .before .pre) (k .0) (k .1)
 
--- src/lib.rt:310:20
 enum-known-call-6 : tie.Need-enum-known-call-6
 enum-known-call-6 c = search needs
 
--- src/lib.rt:310:29
 check-two-requires-2 : tie.Need-check-two-requires-2
 check-two-requires-2 c κs = rw (c .before .call6 .given .1) at (c .before .before .before .before .pre .named)
 
--- src/lib.rt:311:25
 enum-told-4 : tie.Need-enum-told-4
 enum-told-4 c = search needs
 
--- src/lib.rt:297:1
 returns : tie.Need-returns
 unfolding check
 returns c =
     λ s S. rw (c .enum-told .given .1)
 
--- src/lib.rt:297:1
 returns-2 : tie.Need-returns-2
 unfolding check
 returns-2 c =
     λ s S. rw (c .enum-told2 .given .1)
 
--- src/lib.rt:297:1
 returns-3 : tie.Need-returns-3
 unfolding check
 returns-3 c =
     λ s S. rw (c .enum-told3 .given .1)
 
--- src/lib.rt:297:1
 returns-4 : tie.Need-returns-4
 unfolding check var
 returns-4 c =
     λ s S. rw (c .before .before .call .given .1) (c .check-two .ensures _ (S .held))
 
--- src/lib.rt:297:1
 returns-5 : tie.Need-returns-5
 unfolding check var
 returns-5 c =
     λ s S. rw (c .before .before .call2 .given .1) (c .check-one .ensures _ (S .held))
 
--- src/lib.rt:297:1
 returns-6 : tie.Need-returns-6
 unfolding check var
 returns-6 c =
     λ s S. rw (c .before .before .call3 .given .1) (c .check-one2 .ensures _ (S .held))
 
--- src/lib.rt:297:1
 returns-7 : tie.Need-returns-7
 unfolding check
 returns-7 c =
     λ s S. rw (c .before .before .call4 .given .1) (c .check-follow .ensures s S)
 
--- src/lib.rt:297:1
 returns-8 : tie.Need-returns-8
 unfolding check
 returns-8 c =
     λ s S. rw (c .before .before .call5 .given .1) (c .check-read .ensures s S)
 
--- src/lib.rt:297:1
 returns-9 : tie.Need-returns-9
 unfolding check var
 returns-9 c =
     λ s S. rw (c .before .before .call6 .given .1) (c .check-two2 .ensures _ (S .held))
 
--- src/lib.rt:297:1
 returns-10 : tie.Need-returns-10
 unfolding check
 returns-10 c =

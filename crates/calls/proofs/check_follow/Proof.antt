@@ -12,27 +12,21 @@ use Rattle.calls.proofs.is_cell.Reads as is-cell-reads
 use Rattle.calls.proofs.or_else.Reads as or-else-reads
 use Rattle.calls.proofs.want.Reads as want-reads
 
--- src/lib.rt:276:9
 field-of-requires : tie.Need-field-of-requires
 field-of-requires c κs = search needs
 
--- src/lib.rt:277:13
 check-one-requires : tie.Need-check-one-requires
 check-one-requires c κs = search needs
 
--- src/lib.rt:277:46
 is-cell-requires : tie.Need-is-cell-requires
 is-cell-requires c κs = search needs
 
--- src/lib.rt:277:41
 want-requires : tie.Need-want-requires
 want-requires c κs = search needs
 
--- src/lib.rt:277:5
 or-else-requires : tie.Need-or-else-requires
 or-else-requires c κs = search needs
 
--- src/lib.rt:265:1
 returns : tie.Need-returns
 unfolding var
 returns c =

@@ -9,15 +9,12 @@ use Rattle.calls.proofs.check_one.Lts as lts
 use Rattle.calls.proofs.is_held.Reads as is-held-reads
 use Rattle.calls.proofs.want.Reads as want-reads
 
--- src/lib.rt:253:10
 is-held-requires : tie.Need-is-held-requires
 is-held-requires c κs = search needs
 
--- src/lib.rt:253:5
 want-requires : tie.Need-want-requires
 want-requires c κs = search needs
 
--- src/lib.rt:249:1
 returns : tie.Need-returns
 returns c = λ hs H. c .want .ensures ∙ ap (λ (b : Bool). want b 11) (c .before .is-held .ensures hs H)
 

@@ -12,27 +12,21 @@ use Rattle.calls.proofs.is_figure.Reads as is-figure-reads
 use Rattle.calls.proofs.or_else.Reads as or-else-reads
 use Rattle.calls.proofs.want.Reads as want-reads
 
--- src/lib.rt:292:9
 field-of-requires : tie.Need-field-of-requires
 field-of-requires c κs = search needs
 
--- src/lib.rt:293:13
 check-one-requires : tie.Need-check-one-requires
 check-one-requires c κs = search needs
 
--- src/lib.rt:293:46
 is-figure-requires : tie.Need-is-figure-requires
 is-figure-requires c κs = search needs
 
--- src/lib.rt:293:41
 want-requires : tie.Need-want-requires
 want-requires c κs = search needs
 
--- src/lib.rt:293:5
 or-else-requires : tie.Need-or-else-requires
 or-else-requires c κs = search needs
 
--- src/lib.rt:281:1
 returns : tie.Need-returns
 unfolding var
 returns c =

@@ -9,19 +9,15 @@ use Rattle.calls.proofs.check_two.Lts as lts
 use Rattle.calls.proofs.check_one.Reads as check-one-reads
 use Rattle.calls.proofs.or_else.Reads as or-else-reads
 
--- src/lib.rt:261:13
 check-one-requires : tie.Need-check-one-requires
 check-one-requires c κs = search needs
 
--- src/lib.rt:261:41
 check-one-requires-2 : tie.Need-check-one-requires-2
 check-one-requires-2 c κs = search needs
 
--- src/lib.rt:261:5
 or-else-requires : tie.Need-or-else-requires
 or-else-requires c κs = search needs
 
--- src/lib.rt:257:1
 returns : tie.Need-returns
 returns c = λ hs H. c .or-else .ensures ∙ ap₂ orElse (c .before .before .check-one .ensures hs H) (c .before .check-one2 .ensures hs H) ∙ both-11 _ _
 

@@ -8,19 +8,15 @@ use Rattle.calls.proofs.copy.Lts as lts
 use Rattle.cells.proofs.held.Reads as held-reads
 use Rattle.cells.proofs.hold.Reads as hold-reads
 
--- src/lib.rt:416:9
 held-requires : tie.Need-held-requires
 held-requires c κs = search needs
 
--- src/lib.rt:417:5
 hold-requires : tie.Need-hold-requires
 hold-requires c κs = search needs
 
--- src/lib.rt:412:1
 same-length : tie.Need-same-length
 same-length c = search needs
 
--- src/lib.rt:412:1
 returns : tie.Need-returns
 returns c =
     let p = c .before .before .before .before .before .pre in

@@ -6,41 +6,33 @@ use Rattle.calls.proofs.drop_count.Tie as tie
 use Rattle.calls.proofs.drop_count.Reads as reads
 use Rattle.calls.proofs.drop_count.Lts as lts
 
--- src/lib.rt:322:27
 enum-told : tie.Need-enum-told
 enum-told c = search needs
 
--- src/lib.rt:323:29
 enum-told-2 : tie.Need-enum-told-2
 enum-told-2 c = search needs
 
--- src/lib.rt:324:27
 enum-told-3 : tie.Need-enum-told-3
 enum-told-3 c = search needs
 
--- src/lib.rt:325:27
 enum-told-4 : tie.Need-enum-told-4
 enum-told-4 c = search needs
 
--- src/lib.rt:318:1
 returns : tie.Need-returns
 unfolding drops
 returns c =
     (rw (c .enum-told .given .1), omega arith)
 
--- src/lib.rt:318:1
 returns-2 : tie.Need-returns-2
 unfolding drops
 returns-2 c =
     (rw (c .enum-told2 .given .1), omega arith)
 
--- src/lib.rt:318:1
 returns-3 : tie.Need-returns-3
 unfolding drops
 returns-3 c =
     (rw (c .enum-told3 .given .1), omega arith)
 
--- src/lib.rt:318:1
 returns-4 : tie.Need-returns-4
 unfolding drops
 returns-4 c =

@@ -7,29 +7,23 @@ use Rattle.calls.proofs.field_of.Lts as lts
 use Rattle.cells.proofs.field_at.Reads as field-at-reads
 use Rattle.cells.proofs.held.Reads as held-reads
 
--- src/lib.rt:203:9
 held-requires : tie.Need-held-requires
 held-requires c κs = search needs
 
--- src/lib.rt:205:40
 mul-field-at : tie.Need-mul-field-at
 mul-field-at c = search needs
 
--- src/lib.rt:205:40
 add-field-at : tie.Need-add-field-at
 add-field-at c = search needs
 
--- src/lib.rt:205:9
 field-at-requires : tie.Need-field-at-requires
 field-at-requires c κs = search needs
 
--- src/lib.rt:205:9
 returns : tie.Need-returns
 returns c =
     let p = c .before .before .before .before .pre in
     λ s S. at-some S _ _ (p .v-below) (c .before .before .held .ensures) (c .before .if1 .taken) (c .field-at .ensures)
 
--- src/lib.rt:192:1
 returns-2 : tie.Need-returns-2
 returns-2 c =
     let p = c .before .before .before .pre in

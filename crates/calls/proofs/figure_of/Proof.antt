@@ -5,41 +5,33 @@ use Rattle.calls.proofs.figure_of.Tie as tie
 use Rattle.calls.proofs.figure_of.Reads as reads
 use Rattle.calls.proofs.figure_of.Lts as lts
 
--- src/lib.rt:505:27
 enum-told : tie.Need-enum-told
 enum-told c = search needs
 
--- src/lib.rt:506:23
 enum-known-f : tie.Need-enum-known-f
 enum-known-f c = search needs
 
--- src/lib.rt:507:27
 enum-told-2 : tie.Need-enum-told-2
 enum-told-2 c = search needs
 
--- src/lib.rt:508:27
 enum-told-3 : tie.Need-enum-told-3
 enum-told-3 c = search needs
 
--- src/lib.rt:501:1
 returns : tie.Need-returns
 unfolding figureOf
 returns c =
     rw (c .enum-told .given .1)
 
--- src/lib.rt:501:1
 returns-2 : tie.Need-returns-2
 unfolding figureOf
 returns-2 c =
     rw (c .before .f .given .1) (search needs)
 
--- src/lib.rt:501:1
 returns-3 : tie.Need-returns-3
 unfolding figureOf
 returns-3 c =
     rw (c .enum-told2 .given .1)
 
--- src/lib.rt:501:1
 returns-4 : tie.Need-returns-4
 unfolding figureOf
 returns-4 c =

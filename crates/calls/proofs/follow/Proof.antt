@@ -9,23 +9,18 @@ use Rattle.calls.proofs.field_of.Reads as field-of-reads
 use Rattle.calls.proofs.target_or.Reads as target-or-reads
 use Rattle.cells.proofs.hold.Reads as hold-reads
 
--- src/lib.rt:454:23
 field-of-requires : tie.Need-field-of-requires
 field-of-requires c κs = search needs
 
--- src/lib.rt:454:9
 target-or-requires : tie.Need-target-or-requires
 target-or-requires c κs = search needs
 
--- src/lib.rt:455:5
 hold-requires : tie.Need-hold-requires
 hold-requires c κs = search needs
 
--- src/lib.rt:441:1
 same-length : tie.Need-same-length
 same-length c = search needs
 
--- src/lib.rt:441:1
 returns : tie.Need-returns
 returns c =
     (refl, λ s S. followed _ _ _ _ _ S (c .before .before .before .before .field-of .ensures s S) (c .before .before .before .target-or .ensures) (c .before .hold .ensures))

@@ -6,11 +6,9 @@ use Rattle.calls.proofs.is_held.Reads as reads
 use Rattle.calls.proofs.is_held.Lts as lts
 use Rattle.cells.proofs.held.Reads as held-reads
 
--- src/lib.rt:188:5
 held-requires : tie.Need-held-requires
 held-requires c κs = search needs
 
--- src/lib.rt:184:1
 returns : tie.Need-returns
 returns c = λ hs H. held-test H _ (c .before .pre) (c .held .ensures)
 

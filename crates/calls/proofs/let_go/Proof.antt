@@ -7,15 +7,12 @@ use Rattle.calls.proofs.let_go.Reads as reads
 use Rattle.calls.proofs.let_go.Lts as lts
 use Rattle.cells.proofs.hold.Reads as hold-reads
 
--- src/lib.rt:425:5
 hold-requires : tie.Need-hold-requires
 hold-requires c κs = search needs
 
--- src/lib.rt:421:1
 same-length : tie.Need-same-length
 same-length c = search needs
 
--- src/lib.rt:421:1
 returns : tie.Need-returns
 returns c = (refl, λ hs H. gone _ H (c .before .hold .ensures))
 

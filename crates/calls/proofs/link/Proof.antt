@@ -9,34 +9,27 @@ use Rattle.calls.proofs.write.Reads as write-reads
 use Rattle.cells.proofs.add_entry.Reads as add-entry-reads
 use Rattle.cells.proofs.held.Reads as held-reads
 
--- src/lib.rt:495:9
 held-requires : tie.Need-held-requires
 held-requires c κs = search needs
 
--- src/lib.rt:496:9
 write-requires : tie.Need-write-requires
 write-requires c κs = link-writable (c .before .before .before .before .before .before .pre) (c .before .before .before .held .ensures)
 
--- src/lib.rt:497:5
 add-entry-requires : tie.Need-add-entry-requires
 add-entry-requires c κs =
     let p = c .before .before .before .before .before .before .before .before .before .before .before .before .before .pre in
     let g = c .before .before .before .before .before .before .write .ensures (p .shape) (p .entries) (p .shown) (p .logged) .logged in
     (link-room p (c .before .before .before .before .before .before .before .before .before .before .held .ensures) g (search needs), search needs)
 
--- src/lib.rt:481:1
 same-length : tie.Need-same-length
 same-length c = search needs
 
--- src/lib.rt:481:1
 same-length-2 : tie.Need-same-length-2
 same-length-2 c = search needs
 
--- src/lib.rt:481:1
 same-length-3 : tie.Need-same-length-3
 same-length-3 c = search needs
 
--- src/lib.rt:481:1
 returns : tie.Need-returns
 returns c =
     let p = c .before .before .before .before .before .before .before .before .before .before .before .before .before .before .before .before .pre in

@@ -7,15 +7,12 @@ use Rattle.calls.proofs.make_count.Reads as reads
 use Rattle.calls.proofs.make_count.Lts as lts
 use Rattle.calls.proofs.is_held.Reads as is-held-reads
 
--- src/lib.rt:335:8
 is-held-requires : tie.Need-is-held-requires
 is-held-requires c κs = search needs
 
--- src/lib.rt:330:1
 returns : tie.Need-returns
 returns c = (omega arith, λ hs H. made _ 1 _ (c .before .is-held .ensures hs H) (rw (c .if1 .taken)))
 
--- src/lib.rt:330:1
 returns-2 : tie.Need-returns-2
 returns-2 c = (omega arith, λ hs H. made _ 0 _ (c .before .is-held .ensures hs H) (rw (c .if1 .left)))
 

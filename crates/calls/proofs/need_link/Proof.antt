@@ -13,23 +13,18 @@ use Rattle.calls.proofs.drop_count.Reads as drop-count-reads
 use Rattle.calls.proofs.field_of.Reads as field-of-reads
 use Rattle.calls.proofs.make_count.Reads as make-count-reads
 
--- src/lib.rt:351:9
 field-of-requires : tie.Need-field-of-requires
 field-of-requires c κs = search needs
 
--- src/lib.rt:352:5
 drop-count-requires : tie.Need-drop-count-requires
 drop-count-requires c κs = search needs
 
--- src/lib.rt:352:23
 make-count-requires : tie.Need-make-count-requires
 make-count-requires c κs = search needs
 
--- src/lib.rt:352:5
 add-result : tie.Need-add-result
 add-result c = search needs
 
--- src/lib.rt:339:1
 returns : tie.Need-returns
 unfolding var
 returns c =

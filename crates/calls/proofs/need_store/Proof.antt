@@ -10,15 +10,12 @@ use Rattle.calls.proofs.need_store.Lts as lts
 use Rattle.calls.proofs.drop_count.Reads as drop-count-reads
 use Rattle.calls.proofs.field_of.Reads as field-of-reads
 
--- src/lib.rt:367:16
 field-of-requires : tie.Need-field-of-requires
 field-of-requires c κs = search needs
 
--- src/lib.rt:367:5
 drop-count-requires : tie.Need-drop-count-requires
 drop-count-requires c κs = search needs
 
--- src/lib.rt:356:1
 returns : tie.Need-returns
 returns c = λ s S. c .drop-count .ensures .0 ∙ ap (λ (x : Field). length (drops x)) (c .before .field-of .ensures s S)
 

@@ -4,11 +4,9 @@ use Rattle.calls.proofs.or_else.Tie as tie
 use Rattle.calls.proofs.or_else.Reads as reads
 use Rattle.calls.proofs.or_else.Lts as lts
 
--- src/lib.rt:242:1
 returns : tie.Need-returns
 returns c = else-zero _ _ (c .if1 .taken)
 
--- src/lib.rt:242:1
 returns-2 : tie.Need-returns-2
 returns-2 c = else-more _ _ (c .if1 .left)
 

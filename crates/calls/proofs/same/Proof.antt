@@ -6,25 +6,20 @@ use Rattle.calls.proofs.same.Reads as reads
 use Rattle.calls.proofs.same.Lts as lts
 use Rattle.cells.proofs.held.Reads as held-reads
 
--- src/lib.rt:525:9
 held-requires : tie.Need-held-requires
 held-requires c κs = search needs
 
--- src/lib.rt:526:9
 held-requires-2 : tie.Need-held-requires-2
 held-requires-2 c κs = search needs
 
--- src/lib.rt:528:9
 returns : tie.Need-returns
 returns c = let p = c .before .before .before .pre in λ hs H. same-none _ _ H (p .0) (c .before .before .held .ensures) (c .if1 .taken)
 
--- src/lib.rt:521:1
 returns-2 : tie.Need-returns-2
 returns-2 c =
     let p = c .before .before .before .before .pre in
     λ hs H. same-yes _ _ H (p .0) (p .1) (c .before .before .before .held .ensures) (c .before .before .held2 .ensures) (c .before .if1 .left) (c .if2 .taken)
 
--- src/lib.rt:521:1
 returns-3 : tie.Need-returns-3
 returns-3 c =
     let p = c .before .before .before .before .pre in

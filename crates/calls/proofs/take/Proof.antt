@@ -10,43 +10,33 @@ use Rattle.cells.proofs.add_entry.Reads as add-entry-reads
 use Rattle.cells.proofs.hold.Reads as hold-reads
 use Rattle.cells.proofs.take_free.Reads as take-free-reads
 
--- src/lib.rt:560:9
 returns : tie.Need-returns
 returns c = λ s cap zs ms cs work u h e W. none-free s _ _ e (c .if1 .taken) W refl refl refl refl
 
--- src/lib.rt:567:9
 take-free-requires : tie.Need-take-free-requires
 take-free-requires c κs = search needs
 
--- src/lib.rt:568:5
 hold-requires : tie.Need-hold-requires
 hold-requires c κs = search needs
 
--- src/lib.rt:569:9
 add-entry-requires : tie.Need-add-entry-requires
 add-entry-requires c κs = search needs
 
--- src/lib.rt:570:5
 done-requires : tie.Need-done-requires
 done-requires c κs = search needs
 
--- src/lib.rt:546:1
 same-length : tie.Need-same-length
 same-length c = search needs
 
--- src/lib.rt:546:1
 same-length-2 : tie.Need-same-length-2
 same-length-2 c = search needs
 
--- src/lib.rt:546:1
 same-length-3 : tie.Need-same-length-3
 same-length-3 c = search needs
 
--- src/lib.rt:546:1
 same-length-4 : tie.Need-same-length-4
 same-length-4 c = search needs
 
--- src/lib.rt:546:1
 returns-2 : tie.Need-returns-2
 returns-2 c =
     λ s cap zs ms cs work u h e W.

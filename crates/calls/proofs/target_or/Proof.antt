@@ -7,41 +7,33 @@ use Rattle.calls.proofs.target_or.Tie as tie
 use Rattle.calls.proofs.target_or.Reads as reads
 use Rattle.calls.proofs.target_or.Lts as lts
 
--- src/lib.rt:433:27
 enum-told : tie.Need-enum-told
 enum-told c = search needs
 
--- src/lib.rt:434:29
 enum-told-2 : tie.Need-enum-told-2
 enum-told-2 c = search needs
 
--- src/lib.rt:435:21
 enum-known-f : tie.Need-enum-known-f
 enum-known-f c = search needs
 
--- src/lib.rt:436:27
 enum-told-3 : tie.Need-enum-told-3
 enum-told-3 c = search needs
 
--- src/lib.rt:429:1
 returns : tie.Need-returns
 unfolding target
 returns c =
     λ I. rw (c .enum-told .given .1) (no-address (c .before .before .args .n))
 
--- src/lib.rt:429:1
 returns-2 : tie.Need-returns-2
 unfolding target
 returns-2 c =
     λ I. rw (c .enum-told2 .given .1) (no-address (c .before .before .args .n))
 
--- src/lib.rt:429:1
 returns-3 : tie.Need-returns-3
 unfolding target
 returns-3 c =
     λ I. rw (c .before .f .given .1, lt-ltb _ _ (rw (c .before .f .given .1) at I))
 
--- src/lib.rt:429:1
 returns-4 : tie.Need-returns-4
 unfolding target
 returns-4 c =

@@ -4,13 +4,11 @@ use Rattle.calls.proofs.want.Tie as tie
 use Rattle.calls.proofs.want.Reads as reads
 use Rattle.calls.proofs.want.Lts as lts
 
--- src/lib.rt:235:1
 returns : tie.Need-returns
 unfolding want
 returns c =
     rw (c .if1 .taken)
 
--- src/lib.rt:235:1
 returns-2 : tie.Need-returns-2
 unfolding want
 returns-2 c =

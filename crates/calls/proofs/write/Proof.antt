@@ -11,51 +11,41 @@ use Rattle.cells.proofs.held.Reads as held-reads
 use Rattle.cells.proofs.log_old.Reads as log-old-reads
 use Rattle.cells.proofs.put_field.Reads as put-field-reads
 
--- src/lib.rt:473:17
 held-requires : tie.Need-held-requires
 held-requires c κs = search needs
 
--- src/lib.rt:473:13
 mul-i : tie.Need-mul-i
 mul-i c =
     let k = write-place (c .before .before .before .pre) (c .held .ensures) .1 .1 in
     omega arith
 
--- src/lib.rt:473:13
 add-i : tie.Need-add-i
 add-i c =
     let k = write-place (c .before .before .before .pre) (c .held .ensures) .1 .1 in
     let b = c .before .before .before .pre .f-below in
     omega arith
 
--- src/lib.rt:474:9
 field-at-requires : tie.Need-field-at-requires
 field-at-requires c κs = let k = write-place (c .before .before .before .before .before .pre) (c .before .before .held .ensures) in (k .0, k .1 .0)
 
--- src/lib.rt:475:9
 log-old-requires : tie.Need-log-old-requires
 log-old-requires c κs = write-old (c .before .before .before .before .before .before .before .pre) (c .before .before .before .before .held .ensures) _ (c .before .field-at .ensures)
 
--- src/lib.rt:476:5
 put-field-requires : tie.Need-put-field-requires
 put-field-requires c κs =
     let p = c .before .before .before .before .before .before .before .before .before .before .before .before .pre in
     let k = write-place p (c .before .before .before .before .before .before .before .before .before .held .ensures) in
     ((k .0, k .1 .0), inside-more (c .before .before .before .before .before .before .before .before .before .before .before .before .args .x) (p .most) (p .inside))
 
--- src/lib.rt:459:1
 same-length : tie.Need-same-length
 same-length c = search needs
 
--- src/lib.rt:459:1
 same-length-2 : tie.Need-same-length-2
 same-length-2 c = search needs
 
--- src/lib.rt:459:1
 same-length-3 : tie.Need-same-length-3
 same-length-3 c = search needs
 
--- src/lib.rt:459:1
 returns : tie.Need-returns
 returns c =
     let p = c .before .before .before .before .before .before .before .before .before .before .before .before .before .before .before .before .pre in

@@ -10,123 +10,93 @@ use Rattle.audit.proofs.sound.Reads as sound-reads
 use Rattle.words.proofs.calls_right.Reads as calls-right-reads
 use Rattle.working.proofs.run_batch.Reads as run-batch-reads
 
--- src/lib.rt:88:9
 sized-requires : tie.Need-sized-requires
 sized-requires c κs = tt
 
--- src/lib.rt:99:9
 answer-requires : tie.Need-answer-requires
 answer-requires c κs = tt
 
--- src/lib.rt:99:9
 returns : tie.Need-returns
 returns c = refused-1 (c .before .before .sized .ensures) _ _ (c .before .if1 .taken) (c .answer .ensures)
 
--- src/lib.rt:101:9
 calls-right-requires : tie.Need-calls-right-requires
 calls-right-requires c κs = tt
 
--- src/lib.rt:102:9
 answer-requires-2 : tie.Need-answer-requires-2
 answer-requires-2 c κs = tt
 
--- src/lib.rt:102:9
 returns-2 : tie.Need-returns-2
 returns-2 c = refused-2 _ _ (is-sized (c .before .before .before .before .sized .ensures) (c .before .before .before .if1 .left)) (c .before .before .calls-right .ensures) (c .before .if2 .taken) (c .answer2 .ensures)
 
--- src/lib.rt:105:9
 answer-requires-3 : tie.Need-answer-requires-3
 answer-requires-3 c κs = tt
 
--- src/lib.rt:105:9
 returns-3 : tie.Need-returns-3
 returns-3 c = refused-3 _ _ (is-sized (c .before .before .before .before .before .sized .ensures) (c .before .before .before .before .if1 .left)) (c .before .before .before .calls-right .ensures) (c .before .before .if2 .left) (c .before .if3 .taken) (c .answer3 .ensures)
 
--- src/lib.rt:107:9
 sound-requires : tie.Need-sound-requires
 sound-requires c κs = is-sized (c .before .before .before .before .before .before .before .before .before .before .before .before .sized .ensures) (c .before .before .before .before .before .before .before .before .before .before .before .if1 .left)
 
--- src/lib.rt:108:9
 answer-requires-4 : tie.Need-answer-requires-4
 answer-requires-4 c κs = tt
 
--- src/lib.rt:108:9
 same-length : tie.Need-same-length
 same-length c = refl
 
--- src/lib.rt:108:9
 same-length-2 : tie.Need-same-length-2
 same-length-2 c = refl
 
--- src/lib.rt:108:9
 same-length-3 : tie.Need-same-length-3
 same-length-3 c = refl
 
--- src/lib.rt:108:9
 same-length-4 : tie.Need-same-length-4
 same-length-4 c = refl
 
--- src/lib.rt:108:9
 same-length-5 : tie.Need-same-length-5
 same-length-5 c = refl
 
--- src/lib.rt:108:9
 same-length-6 : tie.Need-same-length-6
 same-length-6 c = refl
 
--- src/lib.rt:108:9
 same-length-7 : tie.Need-same-length-7
 same-length-7 c = refl
 
--- src/lib.rt:108:9
 same-length-8 : tie.Need-same-length-8
 same-length-8 c = c .before .before .before .work .given
 
--- src/lib.rt:108:9
 returns-4 : tie.Need-returns-4
 returns-4 c = refused-4 _ _ (is-sized (c .before .before .before .before .before .before .before .before .before .before .before .before .before .before .before .before .before .sized .ensures) (c .before .before .before .before .before .before .before .before .before .before .before .before .before .before .before .before .if1 .left)) (c .before .before .before .before .before .before .before .before .before .before .before .before .before .before .before .calls-right .ensures) (c .before .before .before .before .before .before .before .before .before .before .before .before .before .before .if2 .left) (c .before .before .before .before .before .before .before .before .before .before .before .before .before .if3 .left) (c .before .before .before .before .sound .ensures) (c .before .if4 .taken) (c .answer4 .ensures)
 
--- src/lib.rt:110:5
 run-batch-requires : tie.Need-run-batch-requires
 run-batch-requires c κs = runnable-by _ _ (is-sized (c .before .before .before .before .before .before .before .before .before .before .before .before .before .before .before .before .before .before .before .before .before .before .before .before .before .sized .ensures) (c .before .before .before .before .before .before .before .before .before .before .before .before .before .before .before .before .before .before .before .before .before .before .before .before .if1 .left)) (c .before .before .before .before .before .before .before .before .before .before .before .before .before .before .before .before .before .before .before .before .before .before .before .calls-right .ensures) (c .before .before .before .before .before .before .before .before .before .before .before .before .before .before .before .before .before .before .before .before .before .before .if2 .left) (c .before .before .before .before .before .before .before .before .before .before .before .before .before .before .before .before .before .before .before .before .before .if3 .left) (c .before .before .before .before .before .before .before .before .before .before .before .before .sound .ensures) (c .before .before .before .before .before .before .before .before .before .if4 .left)
 
--- src/lib.rt:71:1
 same-length-9 : tie.Need-same-length-9
 same-length-9 c = c .before .before .before .before .before .before .before .before .before .before .before .before .before .before .kinds .given
 
--- src/lib.rt:71:1
 same-length-10 : tie.Need-same-length-10
 same-length-10 c = c .before .before .before .before .before .before .before .before .before .before .before .before .values .given
 
--- src/lib.rt:71:1
 same-length-11 : tie.Need-same-length-11
 same-length-11 c = c .before .before .before .before .before .before .before .before .before .before .before .variables .given
 
--- src/lib.rt:71:1
 same-length-12 : tie.Need-same-length-12
 same-length-12 c = c .before .before .before .before .before .before .before .before .before .before .zct .given
 
--- src/lib.rt:71:1
 same-length-13 : tie.Need-same-length-13
 same-length-13 c = c .before .before .before .before .before .before .before .before .mrt .given
 
--- src/lib.rt:71:1
 same-length-14 : tie.Need-same-length-14
 same-length-14 c = c .before .before .before .before .before .before .counts .given
 
--- src/lib.rt:71:1
 same-length-15 : tie.Need-same-length-15
 same-length-15 c = c .before .before .before .before .log .given
 
--- src/lib.rt:71:1
 same-length-16 : tie.Need-same-length-16
 same-length-16 c = c .before .before .work2 .given ∙ c .before .before .before .before .before .before .before .before .before .before .before .before .before .before .before .before .before .before .before .before .before .before .before .before .before .before .before .work .given
 
--- src/lib.rt:71:1
 same-length-17 : tie.Need-same-length-17
 same-length-17 c = c .answers .given
 
--- src/lib.rt:71:1
 returns-5 : tie.Need-returns-5
 returns-5 c = accepted-by _ _ (is-sized (c .before .before .before .before .before .before .before .before .before .before .before .before .before .before .before .before .before .before .before .before .before .before .before .before .before .before .before .before .before .before .before .before .before .before .before .before .before .before .before .before .before .sized .ensures) (c .before .before .before .before .before .before .before .before .before .before .before .before .before .before .before .before .before .before .before .before .before .before .before .before .before .before .before .before .before .before .before .before .before .before .before .before .before .before .before .before .if1 .left)) (c .before .before .before .before .before .before .before .before .before .before .before .before .before .before .before .before .before .before .before .before .before .before .before .before .before .before .before .before .before .before .before .before .before .before .before .before .before .before .before .calls-right .ensures) (c .before .before .before .before .before .before .before .before .before .before .before .before .before .before .before .before .before .before .before .before .before .before .before .before .before .before .before .before .before .before .before .before .before .before .before .before .before .before .if2 .left) (c .before .before .before .before .before .before .before .before .before .before .before .before .before .before .before .before .before .before .before .before .before .before .before .before .before .before .before .before .before .before .before .before .before .before .before .before .before .if3 .left) (c .before .before .before .before .before .before .before .before .before .before .before .before .before .before .before .before .before .before .before .before .before .before .before .before .before .before .before .before .sound .ensures) (c .before .before .before .before .before .before .before .before .before .before .before .before .before .before .before .before .before .before .before .before .before .before .before .before .before .if4 .left) (c .before .before .before .before .before .before .before .before .before .before .before .before .before .before .before .run-batch .ensures)
 

@@ -8,67 +8,51 @@ use Rattle.audit.proofs.sized.Reads as sized-reads
 use Rattle.cells.proofs.fresh_rows.Reads as fresh-rows-reads
 use Rattle.rules.proofs.Head.fresh.Reads as fresh-reads
 
--- src/lib.rt:-13:9
 fresh-requires : tie.Need-fresh-requires
 fresh-requires c κs = tt
 
--- src/lib.rt:-12:9
 sized-requires : tie.Need-sized-requires
 sized-requires c κs = tt
 
--- src/lib.rt:-1:26
 fresh-requires-2 : tie.Need-fresh-requires-2
 fresh-requires-2 c κs = tt
 
--- src/lib.rt:-1:9
 answer-requires : tie.Need-answer-requires
 answer-requires c κs = tt
 
--- src/lib.rt:-1:9
 returns : tie.Need-returns
 returns c = no-fresh (c .before .before .before .before .fresh .ensures) (c .before .before .before .sized .ensures) (c .before .before .if1 .taken) (c .before .fresh2 .ensures) (c .answer .ensures)
 
--- src/lib.rt:1:5
 fresh-rows-requires : tie.Need-fresh-rows-requires
 fresh-rows-requires c κs = fitting (c .before .before .before .before .before .before .before .before .before .before .fresh .ensures) (c .before .before .before .before .before .before .before .before .before .sized .ensures) (c .before .before .before .before .before .before .before .before .if1 .left)
 
--- src/lib.rt:2:5
 answer-requires-2 : tie.Need-answer-requires-2
 answer-requires-2 c κs = tt
 
--- src/lib.rt:-31:1
 same-length : tie.Need-same-length
 same-length c = c .before .before .before .before .before .before .before .before .before .before .before .before .before .before .kinds .given
 
--- src/lib.rt:-31:1
 same-length-2 : tie.Need-same-length-2
 same-length-2 c = c .before .before .before .before .before .before .before .before .before .before .before .before .values .given
 
--- src/lib.rt:-31:1
 same-length-3 : tie.Need-same-length-3
 same-length-3 c = c .before .before .before .before .before .before .before .before .before .before .before .variables .given
 
--- src/lib.rt:-31:1
 same-length-4 : tie.Need-same-length-4
 same-length-4 c = c .before .before .before .before .before .before .before .before .before .before .zct .given
 
--- src/lib.rt:-31:1
 same-length-5 : tie.Need-same-length-5
 same-length-5 c = c .before .before .before .before .before .before .before .before .mrt .given
 
--- src/lib.rt:-31:1
 same-length-6 : tie.Need-same-length-6
 same-length-6 c = c .before .before .before .before .before .before .counts .given
 
--- src/lib.rt:-31:1
 same-length-7 : tie.Need-same-length-7
 same-length-7 c = c .before .before .before .before .log .given
 
--- src/lib.rt:-31:1
 same-length-8 : tie.Need-same-length-8
 same-length-8 c = c .before .before .work .given
 
--- src/lib.rt:-31:1
 returns-2 : tie.Need-returns-2
 returns-2 c = made-fresh (fresh-sized (c .before .before .before .before .before .before .before .before .before .before .before .before .before .before .before .before .before .before .before .before .before .before .before .before .before .before .fresh .ensures) (c .before .before .before .before .before .before .before .before .before .before .before .before .before .before .before .before .before .before .before .before .before .before .before .before .before .sized .ensures) (c .before .before .before .before .before .before .before .before .before .before .before .before .before .before .before .before .before .before .before .before .before .before .before .before .if1 .left)) (c .before .before .before .before .before .before .before .before .before .before .before .before .before .before .before .before .before .before .before .before .before .before .before .before .before .before .fresh .ensures) (c .before .before .before .before .before .before .before .before .before .before .before .before .before .before .before .fresh-rows .ensures) (c .answer2 .ensures)
 

@@ -3,15 +3,12 @@ use Rattle.words.proofs.all.Tie as tie
 use Rattle.words.proofs.all.Reads as reads
 use Rattle.words.proofs.all.Lts as lts
 
--- src/lib.rt:42:9
 returns : tie.Need-returns
 returns c = rw (c .before .if1 .taken, c .if2 .taken)
 
--- src/lib.rt:45:9
 returns-2 : tie.Need-returns-2
 returns-2 c = rw (c .before .if1 .taken, c .if2 .left)
 
--- src/lib.rt:38:1
 returns-3 : tie.Need-returns-3
 returns-3 c = rw (c .if1 .left)
 

@@ -6,55 +6,42 @@ use Rattle.words.proofs.call_at.Reads as reads
 use Rattle.words.proofs.call_at.Lts as lts
 use Rattle.words.proofs.call_of.Reads as call-of-reads
 
--- src/lib.rt:127:13
 mul-call-of : tie.Need-mul-call-of
 mul-call-of c = search needs
 
--- src/lib.rt:127:13
 shared-slice-copy-out-call-of : tie.Need-shared-slice-copy-out-call-of
 shared-slice-copy-out-call-of c = search needs
 
--- src/lib.rt:127:29
 add-call-of : tie.Need-add-call-of
 add-call-of c = search needs
 
--- src/lib.rt:127:23
 mul-call-of-2 : tie.Need-mul-call-of-2
 mul-call-of-2 c = search needs
 
--- src/lib.rt:127:23
 shared-slice-copy-out-call-of-2 : tie.Need-shared-slice-copy-out-call-of-2
 shared-slice-copy-out-call-of-2 c = search needs
 
--- src/lib.rt:127:43
 add-call-of-2 : tie.Need-add-call-of-2
 add-call-of-2 c = search needs
 
--- src/lib.rt:127:37
 mul-call-of-3 : tie.Need-mul-call-of-3
 mul-call-of-3 c = search needs
 
--- src/lib.rt:127:37
 shared-slice-copy-out-call-of-3 : tie.Need-shared-slice-copy-out-call-of-3
 shared-slice-copy-out-call-of-3 c = search needs
 
--- src/lib.rt:127:57
 add-call-of-3 : tie.Need-add-call-of-3
 add-call-of-3 c = search needs
 
--- src/lib.rt:127:51
 mul-call-of-4 : tie.Need-mul-call-of-4
 mul-call-of-4 c = search needs
 
--- src/lib.rt:127:51
 shared-slice-copy-out-call-of-4 : tie.Need-shared-slice-copy-out-call-of-4
 shared-slice-copy-out-call-of-4 c = search needs
 
--- src/lib.rt:127:5
 call-of-requires : tie.Need-call-of-requires
 call-of-requires c κs = search needs
 
--- src/lib.rt:123:1
 returns : tie.Need-returns
 returns c = rw (back _ (c .before .before .before .before .call-of-arg .given), back _ (c .before .before .before .call-of-arg2 .given), back _ (c .before .before .call-of-arg3 .given), back _ (c .before .call-of-arg4 .given)) at (c .call-of .ensures)
 

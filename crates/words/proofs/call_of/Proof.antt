@@ -17,159 +17,120 @@ use Rattle.words.proofs.one_variable.Reads as one-variable-reads
 use Rattle.words.proofs.two_variables.Reads as two-variables-reads
 use Rattle.cells.proofs.address.Reads as address-reads
 
--- src/lib.rt:109:20
 one-variable-requires : tie.Need-one-variable-requires
 one-variable-requires c κs = search needs
 
--- src/lib.rt:109:56
 address-requires : tie.Need-address-requires
 address-requires c κs = search needs
 
--- src/lib.rt:109:14
 given-requires : tie.Need-given-requires
 given-requires c κs = search needs
 
--- src/lib.rt:110:20
 two-variables-requires : tie.Need-two-variables-requires
 two-variables-requires c κs = search needs
 
--- src/lib.rt:110:58
 address-requires-2 : tie.Need-address-requires-2
 address-requires-2 c κs = search needs
 
--- src/lib.rt:110:70
 address-requires-3 : tie.Need-address-requires-3
 address-requires-3 c κs = search needs
 
--- src/lib.rt:110:14
 given-requires-2 : tie.Need-given-requires-2
 given-requires-2 c κs = search needs
 
--- src/lib.rt:111:20
 one-variable-requires-2 : tie.Need-one-variable-requires-2
 one-variable-requires-2 c κs = search needs
 
--- src/lib.rt:111:58
 address-requires-4 : tie.Need-address-requires-4
 address-requires-4 c κs = search needs
 
--- src/lib.rt:111:14
 given-requires-3 : tie.Need-given-requires-3
 given-requires-3 c κs = search needs
 
--- src/lib.rt:112:20
 field-and-variable-requires : tie.Need-field-and-variable-requires
 field-and-variable-requires c κs = search needs
 
--- src/lib.rt:112:63
 address-requires-5 : tie.Need-address-requires-5
 address-requires-5 c κs = search needs
 
--- src/lib.rt:112:75
 address-requires-6 : tie.Need-address-requires-6
 address-requires-6 c κs = search needs
 
--- src/lib.rt:112:87
 address-requires-7 : tie.Need-address-requires-7
 address-requires-7 c κs = search needs
 
--- src/lib.rt:112:14
 given-requires-4 : tie.Need-given-requires-4
 given-requires-4 c κs = search needs
 
--- src/lib.rt:113:20
 field-and-figure-requires : tie.Need-field-and-figure-requires
 field-and-figure-requires c κs = search needs
 
--- src/lib.rt:113:57
 address-requires-8 : tie.Need-address-requires-8
 address-requires-8 c κs = search needs
 
--- src/lib.rt:113:69
 address-requires-9 : tie.Need-address-requires-9
 address-requires-9 c κs = search needs
 
--- src/lib.rt:113:14
 given-requires-5 : tie.Need-given-requires-5
 given-requires-5 c κs = search needs
 
--- src/lib.rt:114:20
 one-field-requires : tie.Need-one-field-requires
 one-field-requires c κs = search needs
 
--- src/lib.rt:114:55
 address-requires-10 : tie.Need-address-requires-10
 address-requires-10 c κs = search needs
 
--- src/lib.rt:114:67
 address-requires-11 : tie.Need-address-requires-11
 address-requires-11 c κs = search needs
 
--- src/lib.rt:114:14
 given-requires-6 : tie.Need-given-requires-6
 given-requires-6 c κs = search needs
 
--- src/lib.rt:115:20
 field-and-variable-requires-2 : tie.Need-field-and-variable-requires-2
 field-and-variable-requires-2 c κs = search needs
 
--- src/lib.rt:115:65
 address-requires-12 : tie.Need-address-requires-12
 address-requires-12 c κs = search needs
 
--- src/lib.rt:115:77
 address-requires-13 : tie.Need-address-requires-13
 address-requires-13 c κs = search needs
 
--- src/lib.rt:115:89
 address-requires-14 : tie.Need-address-requires-14
 address-requires-14 c κs = search needs
 
--- src/lib.rt:115:14
 given-requires-7 : tie.Need-given-requires-7
 given-requires-7 c κs = search needs
 
--- src/lib.rt:116:20
 one-field-requires-2 : tie.Need-one-field-requires-2
 one-field-requires-2 c κs = search needs
 
--- src/lib.rt:116:54
 address-requires-15 : tie.Need-address-requires-15
 address-requires-15 c κs = search needs
 
--- src/lib.rt:116:66
 address-requires-16 : tie.Need-address-requires-16
 address-requires-16 c κs = search needs
 
--- src/lib.rt:116:14
 given-requires-8 : tie.Need-given-requires-8
 given-requires-8 c κs = search needs
 
--- src/lib.rt:117:20
 two-variables-requires-2 : tie.Need-two-variables-requires-2
 two-variables-requires-2 c κs = search needs
 
--- src/lib.rt:117:58
 address-requires-17 : tie.Need-address-requires-17
 address-requires-17 c κs = search needs
 
--- src/lib.rt:117:70
 address-requires-18 : tie.Need-address-requires-18
 address-requires-18 c κs = search needs
 
--- src/lib.rt:117:14
 given-requires-9 : tie.Need-given-requires-9
 given-requires-9 c κs = search needs
 
--- src/lib.rt:118:21
 no-words-requires : tie.Need-no-words-requires
 no-words-requires c κs = search needs
 
--- src/lib.rt:118:15
 given-requires-10 : tie.Need-given-requires-10
 given-requires-10 c κs = search needs
 
--- src/lib.rt:104:1
 returns : tie.Need-returns
 unfolding callOf
 returns c =
@@ -177,7 +138,6 @@ returns c =
     rw (op-is 1 (s .fits .op) (c .before .before .before .match .keys1))
     (given-are (c .given .ensures) (same-three (isBelow _) (isNought) (isNought) (s .fits .a) (s .fits .b) (s .fits .c) (c .before .before .one-variable .ensures)) (ap New (same number (s .fits .a) (c .before .address .ensures))))
 
--- src/lib.rt:104:1
 returns-2 : tie.Need-returns-2
 unfolding callOf
 returns-2 c =
@@ -185,7 +145,6 @@ returns-2 c =
     rw (op-is 2 (s .fits .op) (c .before .before .before .before .match .keys2))
     (given-are (c .given2 .ensures) (same-three (isBelow _) (isBelow _) (isNought) (s .fits .a) (s .fits .b) (s .fits .c) (c .before .before .before .two-variables .ensures)) (ap₂ Copy (same number (s .fits .a) (c .before .before .address2 .ensures)) (same number (s .fits .b) (c .before .address3 .ensures))))
 
--- src/lib.rt:104:1
 returns-3 : tie.Need-returns-3
 unfolding callOf
 returns-3 c =
@@ -193,7 +152,6 @@ returns-3 c =
     rw (op-is 3 (s .fits .op) (c .before .before .before .match .keys3))
     (given-are (c .given3 .ensures) (same-three (isBelow _) (isNought) (isNought) (s .fits .a) (s .fits .b) (s .fits .c) (c .before .before .one-variable2 .ensures)) (ap Clear (same number (s .fits .a) (c .before .address4 .ensures))))
 
--- src/lib.rt:104:1
 returns-4 : tie.Need-returns-4
 unfolding callOf
 returns-4 c =
@@ -201,7 +159,6 @@ returns-4 c =
     rw (op-is 4 (s .fits .op) (c .before .before .before .before .before .match .keys4))
     (given-are (c .given4 .ensures) (same-three (isBelow _) (isBelow 2) (isBelow _) (s .fits .a) (s .fits .b) (s .fits .c) (c .before .before .before .before .field-and-variable .ensures)) (ap-three Link (same number (s .fits .a) (c .before .before .before .address5 .ensures)) (same number (s .fits .b) (c .before .before .address6 .ensures)) (same number (s .fits .c) (c .before .address7 .ensures))))
 
--- src/lib.rt:104:1
 returns-5 : tie.Need-returns-5
 unfolding callOf
 returns-5 c =
@@ -209,7 +166,6 @@ returns-5 c =
     rw (op-is 5 (s .fits .op) (c .before .before .before .before .match .keys5))
     (given-are (c .given5 .ensures) (figure-right _ (s .fits .a) (s .fits .b) (s .fits .c) (c .before .before .before .field-and-figure .ensures)) (ap-three Put (same number (s .fits .a) (c .before .before .address8 .ensures)) (same number (s .fits .b) (c .before .address9 .ensures)) (toZ-ofZ (s .fits .c))))
 
--- src/lib.rt:104:1
 returns-6 : tie.Need-returns-6
 unfolding callOf
 returns-6 c =
@@ -217,7 +173,6 @@ returns-6 c =
     rw (op-is 6 (s .fits .op) (c .before .before .before .before .match .keys6))
     (given-are (c .given6 .ensures) (same-three (isBelow _) (isBelow 2) (isNought) (s .fits .a) (s .fits .b) (s .fits .c) (c .before .before .before .one-field .ensures)) (ap₂ Blank (same number (s .fits .a) (c .before .before .address10 .ensures)) (same number (s .fits .b) (c .before .address11 .ensures))))
 
--- src/lib.rt:104:1
 returns-7 : tie.Need-returns-7
 unfolding callOf
 returns-7 c =
@@ -225,7 +180,6 @@ returns-7 c =
     rw (op-is 7 (s .fits .op) (c .before .before .before .before .before .match .keys7))
     (given-are (c .given7 .ensures) (same-three (isBelow _) (isBelow 2) (isBelow _) (s .fits .a) (s .fits .b) (s .fits .c) (c .before .before .before .before .field-and-variable2 .ensures)) (ap-three Follow (same number (s .fits .a) (c .before .before .before .address12 .ensures)) (same number (s .fits .b) (c .before .before .address13 .ensures)) (same number (s .fits .c) (c .before .address14 .ensures))))
 
--- src/lib.rt:104:1
 returns-8 : tie.Need-returns-8
 unfolding callOf
 returns-8 c =
@@ -233,7 +187,6 @@ returns-8 c =
     rw (op-is 8 (s .fits .op) (c .before .before .before .before .match .keys8))
     (given-are (c .given8 .ensures) (same-three (isBelow _) (isBelow 2) (isNought) (s .fits .a) (s .fits .b) (s .fits .c) (c .before .before .before .one-field2 .ensures)) (ap₂ Read (same number (s .fits .a) (c .before .before .address15 .ensures)) (same number (s .fits .b) (c .before .address16 .ensures))))
 
--- src/lib.rt:104:1
 returns-9 : tie.Need-returns-9
 unfolding callOf
 returns-9 c =
@@ -241,7 +194,6 @@ returns-9 c =
     rw (op-is 9 (s .fits .op) (c .before .before .before .before .match .keys9))
     (given-are (c .given9 .ensures) (same-three (isBelow _) (isBelow _) (isNought) (s .fits .a) (s .fits .b) (s .fits .c) (c .before .before .before .two-variables2 .ensures)) (ap₂ Same (same number (s .fits .a) (c .before .before .address17 .ensures)) (same number (s .fits .b) (c .before .address18 .ensures))))
 
--- src/lib.rt:104:1
 returns-10 : tie.Need-returns-10
 unfolding callOf
 returns-10 c =
@@ -249,7 +201,6 @@ returns-10 c =
     rw (op-is 10 (s .fits .op) (c .before .before .match .keys10))
     (given-are (c .given10 .ensures) (same-three (isNought) (isNought) (isNought) (s .fits .a) (s .fits .b) (s .fits .c) (c .before .no-words .ensures)) refl)
 
--- src/lib.rt:104:1
 returns-11 : tie.Need-returns-11
 returns-11 c =
     let r = c .match .rest in

@@ -18,51 +18,40 @@ Inv-loop calls m i₀ i = Passed m calls i
 abbrev μ-loop : tie.MeasureT-loop
 μ-loop calls m i₀ i = length calls - i
 
--- src/lib.rt:145:9
 returns : tie.Need-returns Inv-loop μ-loop
 returns c = says-no _ _ _ refl (too-many _ _ (c .if1 .taken))
 
--- src/lib.rt:148:5
 loop-holds : tie.Need-loop-holds Inv-loop μ-loop
 loop-holds c = passed-none _ _
 
--- src/lib.rt:149:12
 sub-if2 : tie.Need-sub-if2 Inv-loop μ-loop
 sub-if2 c = search needs
 
--- src/lib.rt:150:13
 returns-2 : tie.Need-returns-2 Inv-loop μ-loop
 returns-2 c =
     says-no _ _ _ refl (stops-short _ _ _ (c .before .before .before .if1 .left) (c .before .loop-test .taken) (c .if2 .taken) (c .before .before .loop .inv))
 
--- src/lib.rt:152:20
 call-at-requires : tie.Need-call-at-requires Inv-loop μ-loop
 call-at-requires c κs = search needs
 
--- src/lib.rt:152:12
 is-call-requires : tie.Need-is-call-requires Inv-loop μ-loop
 is-call-requires c κs = search needs
 
--- src/lib.rt:153:13
 add-i : tie.Need-add-i Inv-loop μ-loop
 add-i c = search needs
 
--- src/lib.rt:148:5
 loop-less : tie.Need-loop-less Inv-loop μ-loop
 loop-less c = search needs
 
--- src/lib.rt:148:5
 loop-again : tie.Need-loop-again Inv-loop μ-loop
 loop-again c =
     passed-more _ _ _ (omega arith) (sym (ap isSome (c .before .before .call-at .ensures)) ∙ sym (c .before .is-call .ensures) ∙ c .if3 .taken) (c .before .before .before .before .before .loop .inv)
 
--- src/lib.rt:156:9
 returns-3 : tie.Need-returns-3 Inv-loop μ-loop
 returns-3 c =
     says-no _ _ _ refl
     (stops-bad _ _ _ (c .before .before .before .before .before .before .if1 .left) (omega arith) (sym (ap isSome (c .before .before .call-at .ensures)) ∙ sym (c .before .is-call .ensures) ∙ c .if3 .left) (c .before .before .before .before .before .loop .inv))
 
--- src/lib.rt:141:1
 returns-4 : tie.Need-returns-4 Inv-loop μ-loop
 returns-4 c = says-yes _ _ _ refl (passed-all _ _ _ (c .before .before .if1 .left) (c .loop-test .left) (c .before .loop .inv))
 

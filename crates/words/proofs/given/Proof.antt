@@ -4,11 +4,9 @@ use Rattle.words.proofs.given.Tie as tie
 use Rattle.words.proofs.given.Reads as reads
 use Rattle.words.proofs.given.Lts as lts
 
--- src/lib.rt:51:1
 returns : tie.Need-returns
 returns c = rw (c .if1 .taken)
 
--- src/lib.rt:51:1
 returns-2 : tie.Need-returns-2
 returns-2 c = search needs
 

@@ -6,17 +6,14 @@ use Rattle.words.proofs.is_below.Tie as tie
 use Rattle.words.proofs.is_below.Reads as reads
 use Rattle.words.proofs.is_below.Lts as lts
 
--- src/lib.rt:25:9
 returns : tie.Need-returns
 returns c = below-none _ (c .before .args .x) (simp (toZ-ofZ (c .before .fits .x)) at (c .if1 .taken))
 
--- src/lib.rt:27:6
 cast-result : tie.Need-cast-result
 cast-result c =
     simp (toZ-ofZ (c .before .fits .x))
     (address-fits (c .before .args .x) (c .before .fits .x) (simp (toZ-ofZ (c .before .fits .x)) at (c .if1 .left)))
 
--- src/lib.rt:21:1
 returns-2 : tie.Need-returns-2
 returns-2 c =
     simp (toZ-ofZ (c .before .fits .x))

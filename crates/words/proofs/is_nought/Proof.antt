@@ -8,11 +8,9 @@ use Rattle.words.proofs.is_nought.Reads as reads
 use Rattle.words.proofs.is_nought.Lts as lts
 use Rattle.words.proofs.is_below.Reads as is-below-reads
 
--- src/lib.rt:34:5
 is-below-requires : tie.Need-is-below-requires
 is-below-requires c κs = search needs
 
--- src/lib.rt:31:1
 returns : tie.Need-returns
 returns c = same (isBelow 1) (c .before .fits .x) (c .is-below .ensures) ∙ nought (c .before .args .x)
 

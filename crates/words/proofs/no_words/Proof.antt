@@ -8,23 +8,18 @@ use Rattle.words.proofs.no_words.Lts as lts
 use Rattle.words.proofs.all.Reads as all-reads
 use Rattle.words.proofs.is_nought.Reads as is-nought-reads
 
--- src/lib.rt:100:9
 is-nought-requires : tie.Need-is-nought-requires
 is-nought-requires c κs = search needs
 
--- src/lib.rt:100:23
 is-nought-requires-2 : tie.Need-is-nought-requires-2
 is-nought-requires-2 c κs = search needs
 
--- src/lib.rt:100:37
 is-nought-requires-3 : tie.Need-is-nought-requires-3
 is-nought-requires-3 c κs = search needs
 
--- src/lib.rt:100:5
 all-requires : tie.Need-all-requires
 all-requires c κs = search needs
 
--- src/lib.rt:97:1
 returns : tie.Need-returns
 returns c =
     let s = c .before .before .before .before in

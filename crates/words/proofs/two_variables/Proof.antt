@@ -9,23 +9,18 @@ use Rattle.words.proofs.all.Reads as all-reads
 use Rattle.words.proofs.is_below.Reads as is-below-reads
 use Rattle.words.proofs.is_nought.Reads as is-nought-reads
 
--- src/lib.rt:72:9
 is-below-requires : tie.Need-is-below-requires
 is-below-requires c κs = search needs
 
--- src/lib.rt:72:25
 is-below-requires-2 : tie.Need-is-below-requires-2
 is-below-requires-2 c κs = search needs
 
--- src/lib.rt:72:41
 is-nought-requires : tie.Need-is-nought-requires
 is-nought-requires c κs = search needs
 
--- src/lib.rt:72:5
 all-requires : tie.Need-all-requires
 all-requires c κs = search needs
 
--- src/lib.rt:69:1
 returns : tie.Need-returns
 returns c =
     let s = c .before .before .before .before in

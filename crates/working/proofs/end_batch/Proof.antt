@@ -10,47 +10,36 @@ use Rattle.working.proofs.end_batch.Reads as reads
 use Rattle.working.proofs.end_batch.Lts as lts
 use Rattle.settle.proofs.settle.Reads as settle-reads
 
--- src/lib.rt:305:15
 cast-cap : tie.Need-cast-cap
 cast-cap c = search needs
 
--- src/lib.rt:306:9
 settle-requires : tie.Need-settle-requires
 settle-requires c κs = settleable (c .before .before .before .before .before .before .before .before .before .before .before .before .before .before .before .pre .standing .whole)
 
--- src/lib.rt:333:16
 add-t31 : tie.Need-add-t31
 add-t31 c = let K = c .before .before .before .before .before .before .before .before .before .before .before .before .before .before .before .before .before .before .before .before .before .before .before .before .before .before .before .before .before .before .before .pre in let S = K .standing in let f = K .few in let e = end-few S (c .before .before .before .before .before .before .before .before .before .before .before .before .before .before .before .settle .ensures (sizesOf (c .before .before .before .before .before .before .before .before .before .before .before .before .before .before .before .before .before .before .before .before .before .before .before .before .before .before .before .before .before .before .before .args .head)) _ _ _ _ refl refl (S .whole) (S .whole .variables-are)) (K .fine) in omega arith
 
--- src/lib.rt:288:1
 same-length : tie.Need-same-length
 same-length c = c .before .before .before .before .before .before .before .before .before .before .before .before .before .before .kinds .given
 
--- src/lib.rt:288:1
 same-length-2 : tie.Need-same-length-2
 same-length-2 c = c .before .before .before .before .before .before .before .before .before .before .before .before .values .given
 
--- src/lib.rt:288:1
 same-length-3 : tie.Need-same-length-3
 same-length-3 c = c .before .before .before .before .before .before .before .before .before .before .before .zct .given
 
--- src/lib.rt:288:1
 same-length-4 : tie.Need-same-length-4
 same-length-4 c = c .before .before .before .before .before .before .before .before .before .mrt .given
 
--- src/lib.rt:288:1
 same-length-5 : tie.Need-same-length-5
 same-length-5 c = c .before .before .before .before .before .before .before .counts .given
 
--- src/lib.rt:288:1
 same-length-6 : tie.Need-same-length-6
 same-length-6 c = c .before .before .before .before .before .log .given
 
--- src/lib.rt:288:1
 same-length-7 : tie.Need-same-length-7
 same-length-7 c = c .before .before .before .work .given
 
--- src/lib.rt:288:1
 returns : tie.Need-returns
 returns c = λ h S. end-as S (c .before .before .before .before .before .before .before .before .before .before .before .before .before .before .before .settle .ensures (sizesOf (c .before .before .before .before .before .before .before .before .before .before .before .before .before .before .before .before .before .before .before .before .before .before .before .before .before .before .before .before .before .before .before .args .head)) _ _ _ _ refl refl (S .whole) (S .whole .variables-are))
 

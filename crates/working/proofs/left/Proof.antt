@@ -8,15 +8,12 @@ use Rattle.working.proofs.left.Reads as reads
 use Rattle.working.proofs.left.Lts as lts
 use Rattle.working.proofs.answer_value.Reads as answer-value-reads
 
--- src/lib.rt:96:9
 answer-value-requires : tie.Need-answer-value-requires
 answer-value-requires c κs = search needs
 
--- src/lib.rt:102:16
 add-t9 : tie.Need-add-t9
 add-t9 c = search needs
 
--- src/lib.rt:91:1
 returns : tie.Need-returns
 returns c = record { state = refl; status = refl; value = λ k. out ∙ (rw inn at (c .before .answer-value .ensures k)) }
   where

@@ -6,91 +6,69 @@ use Rattle.working.proofs.settles_first.Tie as tie
 use Rattle.working.proofs.settles_first.Reads as reads
 use Rattle.working.proofs.settles_first.Lts as lts
 
--- src/lib.rt:50:20
 add-full : tie.Need-add-full
 add-full c = search needs
 
--- src/lib.rt:53:16
 enum-told : tie.Need-enum-told
 enum-told c = search needs
 
--- src/lib.rt:54:17
 returns : tie.Need-returns
 returns c = λ s h a b f g j. settles-as s h _ _ _ _ _ _ _ _ (c .before .enum-told .given .1) a b f g j (rw (c .if1 .taken))
 
--- src/lib.rt:58:29
 enum-told-2 : tie.Need-enum-told-2
 enum-told-2 c = search needs
 
--- src/lib.rt:59:27
 enum-told-3 : tie.Need-enum-told-3
 enum-told-3 c = search needs
 
--- src/lib.rt:60:32
 enum-told-4 : tie.Need-enum-told-4
 enum-told-4 c = search needs
 
--- src/lib.rt:61:31
 enum-told-5 : tie.Need-enum-told-5
 enum-told-5 c = search needs
 
--- src/lib.rt:62:30
 enum-told-6 : tie.Need-enum-told-6
 enum-told-6 c = search needs
 
--- src/lib.rt:63:34
 enum-told-7 : tie.Need-enum-told-7
 enum-told-7 c = search needs
 
--- src/lib.rt:64:29
 enum-told-8 : tie.Need-enum-told-8
 enum-told-8 c = search needs
 
--- src/lib.rt:65:29
 enum-told-9 : tie.Need-enum-told-9
 enum-told-9 c = search needs
 
--- src/lib.rt:66:25
 enum-told-10 : tie.Need-enum-told-10
 enum-told-10 c = search needs
 
--- src/lib.rt:39:1
 returns-2 : tie.Need-returns-2
 returns-2 c = λ s h a b f g j. settles-as s h _ _ _ _ _ _ _ _ (c .before .enum-told .given .1) a b f g j (rw (c .if1 .left))
 
--- src/lib.rt:39:1
 returns-3 : tie.Need-returns-3
 returns-3 c = λ s h a b f g j. settles-as s h _ _ _ _ _ _ _ _ (c .enum-told2 .given .1) a b f g j refl
 
--- src/lib.rt:39:1
 returns-4 : tie.Need-returns-4
 returns-4 c = λ s h a b f g j. settles-as s h _ _ _ _ _ _ _ _ (c .enum-told3 .given .1) a b f g j refl
 
--- src/lib.rt:39:1
 returns-5 : tie.Need-returns-5
 returns-5 c = λ s h a b f g j. settles-as s h _ _ _ _ _ _ _ _ (c .enum-told4 .given .1) a b f g j refl
 
--- src/lib.rt:39:1
 returns-6 : tie.Need-returns-6
 returns-6 c = λ s h a b f g j. settles-as s h _ _ _ _ _ _ _ _ (c .enum-told5 .given .1) a b f g j refl
 
--- src/lib.rt:39:1
 returns-7 : tie.Need-returns-7
 returns-7 c = λ s h a b f g j. settles-as s h _ _ _ _ _ _ _ _ (c .enum-told6 .given .1) a b f g j refl
 
--- src/lib.rt:39:1
 returns-8 : tie.Need-returns-8
 returns-8 c = λ s h a b f g j. settles-as s h _ _ _ _ _ _ _ _ (c .enum-told7 .given .1) a b f g j refl
 
--- src/lib.rt:39:1
 returns-9 : tie.Need-returns-9
 returns-9 c = λ s h a b f g j. settles-as s h _ _ _ _ _ _ _ _ (c .enum-told8 .given .1) a b f g j refl
 
--- src/lib.rt:39:1
 returns-10 : tie.Need-returns-10
 returns-10 c = λ s h a b f g j. settles-as s h _ _ _ _ _ _ _ _ (c .enum-told9 .given .1) a b f g j refl
 
--- src/lib.rt:39:1
 returns-11 : tie.Need-returns-11
 returns-11 c = λ s h a b f g j. settles-as s h _ _ _ _ _ _ _ _ (c .enum-told10 .given .1) a b f g j refl
 

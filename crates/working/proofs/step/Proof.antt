@@ -14,83 +14,63 @@ use Rattle.working.proofs.left.Reads as left-reads
 use Rattle.working.proofs.settles_first.Reads as settles-first-reads
 use Rattle.settle.proofs.settle_if.Reads as settle-if-reads
 
--- src/lib.rt:130:9
 check-requires : tie.Need-check-requires
 check-requires c κs = let W = c .before .before .before .before .before .before .before .before .before .pre in reaches _ (W .fits) (W .standing)
 
--- src/lib.rt:132:9
 same-length : tie.Need-same-length
 same-length c = search needs
 
--- src/lib.rt:132:9
 same-length-2 : tie.Need-same-length-2
 same-length-2 c = search needs
 
--- src/lib.rt:132:9
 same-length-3 : tie.Need-same-length-3
 same-length-3 c = search needs
 
--- src/lib.rt:132:9
 returns : tie.Need-returns
 returns c = (omega arith, λ h S. refused-as _ _ S (c .before .check .ensures _ (shown S)) (c .if1 .taken) refl)
 
--- src/lib.rt:142:9
 need-requires : tie.Need-need-requires
 need-requires c κs = let W = c .before .before .before .before .before .before .before .before .before .before .before .before .before .before .before .pre in reaches _ (W .fits) (W .standing)
 
--- src/lib.rt:143:9
 settles-first-requires : tie.Need-settles-first-requires
 settles-first-requires c κs = let W = c .before .before .before .before .before .before .before .before .before .before .before .before .before .before .before .before .pre in (rw (c .need .ensures _ (shown (W .standing))) (needs-two _ _), few (W .fine) (W .standing) .0)
 
--- src/lib.rt:144:15
 cast-cap : tie.Need-cast-cap
 cast-cap c = search needs
 
--- src/lib.rt:145:9
 settle-if-requires : tie.Need-settle-if-requires
 settle-if-requires c κs = settleable (c .before .before .before .before .before .before .before .before .before .before .before .before .before .before .before .before .before .before .before .before .before .before .before .before .before .before .pre .standing .whole)
 
--- src/lib.rt:160:9
 act-requires : tie.Need-act-requires
 act-requires c κs = able-now (c .before .before .before .before .before .before .before .before .before .before .before .before .before .before .before .before .before .before .before .before .before .before .before .before .before .before .before .before .before .before .before .before .before .before .before .before .before .before .before .before .before .before .before .before .pre) (c .before .before .before .before .before .before .before .before .before .before .before .before .before .before .before .before .before .before .before .before .before .before .before .before .before .before .before .before .before .before .before .before .before .before .check .ensures) (c .before .before .before .before .before .before .before .before .before .before .before .before .before .before .before .before .before .before .before .before .before .before .before .before .before .before .before .before .before .before .before .before .before .if1 .left) (c .before .before .before .before .before .before .before .before .before .before .before .before .before .before .before .before .before .before .before .before .before .before .before .before .before .before .before .before .need .ensures) (c .before .before .before .before .before .before .before .before .before .before .before .before .before .before .before .before .before .before .before .before .before .before .before .before .before .before .before .settles-first .ensures) (c .before .before .before .before .before .before .before .before .before .before .before .before .before .before .before .before .before .settle-if .ensures) (c .before .before .before .before .before .before .before .log .given)
 
--- src/lib.rt:170:5
 left-requires : tie.Need-left-requires
 left-requires c κs = few-both (c .before .before .before .before .before .before .before .before .before .before .before .before .before .before .before .before .before .before .before .before .before .before .before .before .before .before .before .before .before .before .before .before .before .before .before .before .before .before .before .before .before .before .before .before .before .before .before .before .before .before .before .pre) (c .before .before .before .before .before .before .before .before .before .before .before .before .before .before .before .before .before .before .before .before .before .before .before .before .before .before .before .before .before .before .before .before .before .before .before .before .before .before .before .before .before .check .ensures) (c .before .before .before .before .before .before .before .before .before .before .before .before .before .before .before .before .before .before .before .before .before .before .before .before .before .before .before .before .before .before .before .before .before .before .before .before .before .before .before .before .if1 .left) (c .before .before .before .before .before .before .before .before .before .before .before .before .before .before .before .before .before .before .before .before .before .before .before .before .before .before .before .before .before .before .before .before .before .before .before .need .ensures) (c .before .before .before .before .before .before .before .before .before .before .before .before .before .before .before .before .before .before .before .before .before .before .before .before .before .before .before .before .before .before .before .before .before .before .settles-first .ensures) (c .before .before .before .before .before .before .before .before .before .before .before .before .before .before .before .before .before .before .before .before .before .before .before .before .settle-if .ensures) (c .before .before .before .before .before .before .before .before .before .before .before .before .before .before .log .given)
 
--- src/lib.rt:112:1
 same-length-4 : tie.Need-same-length-4
 same-length-4 c = c .before .before .before .before .before .before .kinds2 .given ∙ c .before .before .before .before .before .before .before .before .before .before .before .before .before .before .before .before .before .before .before .before .before .before .before .before .kinds .given
 
--- src/lib.rt:112:1
 same-length-5 : tie.Need-same-length-5
 same-length-5 c = c .before .before .before .before .values2 .given ∙ c .before .before .before .before .before .before .before .before .before .before .before .before .before .before .before .before .before .before .before .before .before .before .values .given
 
--- src/lib.rt:112:1
 same-length-6 : tie.Need-same-length-6
 same-length-6 c = c .before .before .before .variables .given
 
--- src/lib.rt:112:1
 same-length-7 : tie.Need-same-length-7
 same-length-7 c = c .before .before .before .before .before .before .before .before .before .before .before .before .before .before .before .before .before .before .before .before .before .zct .given
 
--- src/lib.rt:112:1
 same-length-8 : tie.Need-same-length-8
 same-length-8 c = c .before .before .before .before .before .before .before .before .before .before .before .before .before .before .before .before .before .before .before .mrt .given
 
--- src/lib.rt:112:1
 same-length-9 : tie.Need-same-length-9
 same-length-9 c = c .before .before .before .before .before .before .before .before .before .before .before .before .before .before .before .before .before .counts .given
 
--- src/lib.rt:112:1
 same-length-10 : tie.Need-same-length-10
 same-length-10 c = c .before .before .log2 .given ∙ c .before .before .before .before .before .before .before .before .before .before .before .before .before .before .before .log .given
 
--- src/lib.rt:112:1
 same-length-11 : tie.Need-same-length-11
 same-length-11 c = c .before .before .before .before .before .before .before .before .before .before .before .before .before .work .given
 
--- src/lib.rt:112:1
 returns-2 : tie.Need-returns-2
 returns-2 c = worked-as (c .before .before .before .before .before .before .before .before .before .before .before .before .before .before .before .before .before .before .before .before .before .before .before .before .before .before .before .before .before .before .before .before .before .before .before .before .before .before .before .before .before .before .before .before .before .before .before .before .before .before .before .before .pre) (c .before .before .before .before .before .before .before .before .before .before .before .before .before .before .before .before .before .before .before .before .before .before .before .before .before .before .before .before .before .before .before .before .before .before .before .before .before .before .before .before .before .before .check .ensures) (c .before .before .before .before .before .before .before .before .before .before .before .before .before .before .before .before .before .before .before .before .before .before .before .before .before .before .before .before .before .before .before .before .before .before .before .before .before .before .before .before .before .if1 .left) (c .before .before .before .before .before .before .before .before .before .before .before .before .before .before .before .before .before .before .before .before .before .before .before .before .before .before .before .before .before .before .before .before .before .before .before .before .need .ensures) (c .before .before .before .before .before .before .before .before .before .before .before .before .before .before .before .before .before .before .before .before .before .before .before .before .before .before .before .before .before .before .before .before .before .before .before .settles-first .ensures) (c .before .before .before .before .before .before .before .before .before .before .before .before .before .before .before .before .before .before .before .before .before .before .before .before .before .settle-if .ensures) (c .before .before .before .before .before .before .before .before .before .before .before .before .before .before .before .log .given) (c .before .before .before .before .before .before .before .act .ensures) (c .before .before .log2 .given) (c .left .ensures)
 

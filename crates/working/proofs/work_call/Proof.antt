@@ -8,59 +8,45 @@ use Rattle.working.proofs.work_call.Lts as lts
 use Rattle.words.proofs.call_at.Reads as call-at-reads
 use Rattle.working.proofs.step.Reads as step-reads
 
--- src/lib.rt:178:9
 call-at-requires : tie.Need-call-at-requires
 call-at-requires c κs = search needs
 
--- src/lib.rt:180:21
 enum-known-found : tie.Need-enum-known-found
 enum-known-found c = search needs
 
--- src/lib.rt:180:30
 step-requires : tie.Need-step-requires
 step-requires c κs = let K = c .before .before .before .before .before .before .before .before .before .before .before .before .before .before .before .before .before .before .pre in workable-as (same-call (c .before .before .before .before .before .before .before .before .before .found .given .1) (c .before .before .before .before .before .before .before .before .before .before .before .call-at .ensures) (K .is)) (K .workable)
 
--- src/lib.rt:193:25
 enum-told : tie.Need-enum-told
 enum-told c = search needs
 
--- src/lib.rt:161:1
 same-length : tie.Need-same-length
 same-length c = c .before .before .before .before .before .before .before .before .before .before .before .before .before .kinds .given
 
--- src/lib.rt:161:1
 same-length-2 : tie.Need-same-length-2
 same-length-2 c = c .before .before .before .before .before .before .before .before .before .before .before .values .given
 
--- src/lib.rt:161:1
 same-length-3 : tie.Need-same-length-3
 same-length-3 c = c .before .before .before .before .before .before .before .before .before .before .variables .given
 
--- src/lib.rt:161:1
 same-length-4 : tie.Need-same-length-4
 same-length-4 c = c .before .before .before .before .before .before .before .before .before .zct .given
 
--- src/lib.rt:161:1
 same-length-5 : tie.Need-same-length-5
 same-length-5 c = c .before .before .before .before .before .before .before .mrt .given
 
--- src/lib.rt:161:1
 same-length-6 : tie.Need-same-length-6
 same-length-6 c = c .before .before .before .before .before .counts .given
 
--- src/lib.rt:161:1
 same-length-7 : tie.Need-same-length-7
 same-length-7 c = c .before .before .before .log .given
 
--- src/lib.rt:161:1
 same-length-8 : tie.Need-same-length-8
 same-length-8 c = c .before .work .given
 
--- src/lib.rt:161:1
 returns : tie.Need-returns
 returns c = (c .before .before .before .before .before .before .before .before .before .before .before .before .before .before .step .ensures .0, λ d h e S. answered-call h (same-call (c .before .before .before .before .before .before .before .before .before .before .before .before .before .before .before .before .before .before .before .before .before .before .before .before .found .given .1) (c .before .before .before .before .before .before .before .before .before .before .before .before .before .before .before .before .before .before .before .before .before .before .before .before .before .before .call-at .ensures) e) (c .before .before .before .before .before .before .before .before .before .before .before .before .before .before .step .ensures .1 h S))
 
--- src/lib.rt:161:1
 returns-2 : tie.Need-returns-2
 returns-2 c = (omega arith, λ d h e S. no-call (c .enum-told .given .1) (c .before .before .call-at .ensures) e)
 

@@ -15,95 +15,72 @@ use Rattle.working.proofs.work_turn.Lts as lts
 use Rattle.cells.proofs.value_of.Reads as value-of-reads
 use Rattle.working.proofs.work_call.Reads as work-call-reads
 
--- src/lib.rt:221:13
 mul-p : tie.Need-mul-p
 mul-p c = search needs
 
--- src/lib.rt:223:9
 mul-work-call : tie.Need-mul-work-call
 mul-work-call c = search needs
 
--- src/lib.rt:223:9
 sub-work-call : tie.Need-sub-work-call
 sub-work-call c = search needs
 
--- src/lib.rt:223:9
 part-work-call-start : tie.Need-part-work-call-start
 part-work-call-start c = search needs
 
--- src/lib.rt:223:9
 part-work-call-end : tie.Need-part-work-call-end
 part-work-call-end c = search needs
 
--- src/lib.rt:222:9
 work-call-requires : tie.Need-work-call-requires
 work-call-requires c κs = let K = c .before .before .before .before .before .before .before .before .before .before .before .before .before .before .before .pre in record { call = K .call; is = turn-call (c .before .before .before .before .before .before .before .before .before .before .before .before .before .before .before .args .calls .now) (c .before .before .before .before .before .before .before .before .before .before .before .before .before .before .before .args .i) (K .long) _ (K .is); long = turn-long (c .before .before .before .before .before .before .before .before .before .before .before .before .before .before .before .args .calls .now) (c .before .before .before .before .before .before .before .before .before .before .before .before .before .before .before .args .i) (K .long); workable = K .workable }
 
--- src/lib.rt:235:13
 mul-q : tie.Need-mul-q
 mul-q c = let K = c .before .before .before .before .before .before .before .before .before .before .before .before .before .before .before .before .before .before .before .before .before .before .before .before .before .before .before .before .before .before .pre in let l = K .long in let m = K .most in omega arith
 
--- src/lib.rt:236:9
 value-of-requires : tie.Need-value-of-requires
 value-of-requires c κs = let K = c .before .before .before .before .before .before .before .before .before .before .before .before .before .before .before .before .before .before .before .before .before .before .before .before .before .before .before .before .before .before .pre in rw (c .before .before .before .before .before .before .before .before .before .before .before .before .before .before .work-call .ensures .1 (K .call) (K .workable .heap) (turn-call (c .before .before .before .before .before .before .before .before .before .before .before .before .before .before .before .before .before .before .before .before .before .before .before .before .before .before .before .before .before .before .args .calls .now) (c .before .before .before .before .before .before .before .before .before .before .before .before .before .before .before .before .before .before .before .before .before .before .before .before .before .before .before .before .before .before .args .i) (K .long) _ (K .is)) (K .workable .standing) .status) (omega (arith, status-small (sizesOf (c .before .before .before .before .before .before .before .before .before .before .before .before .before .before .before .before .before .before .before .before .before .before .before .before .before .before .before .before .before .before .args .head)) (K .call) (K .workable .heap)))
 
--- src/lib.rt:237:5
 mul-status : tie.Need-mul-status
 mul-status c = let K = c .before .before .before .before .before .before .before .before .before .before .before .before .before .before .before .before .before .before .before .before .before .before .before .before .before .before .before .before .before .before .before .pre in let l = K .long in let m = K .most in omega arith
 
--- src/lib.rt:237:5
 slice-set-from-status : tie.Need-slice-set-from-status
 slice-set-from-status c = let K = c .before .before .before .before .before .before .before .before .before .before .before .before .before .before .before .before .before .before .before .before .before .before .before .before .before .before .before .before .before .before .before .pre in let l = K .long in let m = K .most in let r = K .room in omega arith
 
--- src/lib.rt:239:13
 add-value : tie.Need-add-value
 add-value c = let K = c .before .before .before .before .before .before .before .before .before .before .before .before .before .before .before .before .before .before .before .before .before .before .before .before .before .before .before .before .before .before .before .before .pre in let l = K .long in let m = K .most in omega arith
 
--- src/lib.rt:239:5
 mul-value : tie.Need-mul-value
 mul-value c = let K = c .before .before .before .before .before .before .before .before .before .before .before .before .before .before .before .before .before .before .before .before .before .before .before .before .before .before .before .before .before .before .before .before .pre in let l = K .long in let m = K .most in omega arith
 
--- src/lib.rt:239:5
 slice-set-from-value : tie.Need-slice-set-from-value
 slice-set-from-value c = let K = c .before .before .before .before .before .before .before .before .before .before .before .before .before .before .before .before .before .before .before .before .before .before .before .before .before .before .before .before .before .before .before .before .pre in let l = K .long in let m = K .most in let r = K .room in simp length-set (omega arith)
 
--- src/lib.rt:202:1
 same-length : tie.Need-same-length
 same-length c = c .before .before .before .before .before .before .before .before .before .before .before .before .before .before .before .before .kinds .given
 
--- src/lib.rt:202:1
 same-length-2 : tie.Need-same-length-2
 same-length-2 c = c .before .before .before .before .before .before .before .before .before .before .before .before .before .before .values .given
 
--- src/lib.rt:202:1
 same-length-3 : tie.Need-same-length-3
 same-length-3 c = c .before .before .before .before .before .before .before .before .before .before .before .before .before .variables .given
 
--- src/lib.rt:202:1
 same-length-4 : tie.Need-same-length-4
 same-length-4 c = c .before .before .before .before .before .before .before .before .before .before .before .before .zct .given
 
--- src/lib.rt:202:1
 same-length-5 : tie.Need-same-length-5
 same-length-5 c = c .before .before .before .before .before .before .before .before .before .before .mrt .given
 
--- src/lib.rt:202:1
 same-length-6 : tie.Need-same-length-6
 same-length-6 c = c .before .before .before .before .before .before .before .before .counts .given
 
--- src/lib.rt:202:1
 same-length-7 : tie.Need-same-length-7
 same-length-7 c = c .before .before .before .before .before .before .log .given
 
--- src/lib.rt:202:1
 same-length-8 : tie.Need-same-length-8
 same-length-8 c = c .before .before .before .before .work .given
 
--- src/lib.rt:202:1
 same-length-9 : tie.Need-same-length-9
 same-length-9 c = two-long (c .before .before .before .before .before .before .before .before .before .before .before .before .before .before .before .before .before .before .before .before .before .before .before .before .before .before .before .before .before .before .before .before .before .args .answers .now) _ _ _ _
 
--- src/lib.rt:202:1
 returns : tie.Need-returns
 returns c = (
   c .before .before .before .before .before .before .before .before .before .before .before .before .before .before .before .before .before .work-call .ensures .0,

@@ -1,30 +1,29 @@
--- Nothing has to hold from turn to turn; the place nears the row's end.
+-- Nothing has to hold from turn to turn; the place nears the last that is used.
 use Prim.Native.Nat.{_-_}
 use borrow.Author.Needs.{needs}
-use lib.ListN.{length}
 use Rattle.cases.proofs.show.byte_row.Statement.{statement}
 use Rattle.cases.proofs.show.byte_row.Tie as tie
 
 abbrev Inv-loop : tie.InvT-loop
-Inv-loop row i₀ t4 i = Unit {0}
+Inv-loop name size row used i₀ t7 i = Unit {0}
 
 abbrev μ-loop : tie.MeasureT-loop
-μ-loop row i₀ t4 i = length row - i
+μ-loop name size row used i₀ t7 i = used - i
 
-slice-aggregate-put : tie.Need-slice-aggregate-put Inv-loop μ-loop
-slice-aggregate-put c = search needs
+text-requires : tie.Need-text-requires Inv-loop μ-loop
+text-requires c κs = search needs
 
-put-requires : tie.Need-put-requires Inv-loop μ-loop
-put-requires c κs = search needs
+clip-requires : tie.Need-clip-requires Inv-loop μ-loop
+clip-requires c κs = search needs
 
 loop-holds : tie.Need-loop-holds Inv-loop μ-loop
 loop-holds c = search needs
 
-shared-slice-read-of-byte : tie.Need-shared-slice-read-of-byte Inv-loop μ-loop
-shared-slice-read-of-byte c = search needs
+array-read-number : tie.Need-array-read-number Inv-loop μ-loop
+array-read-number c = search needs
 
-of-byte-requires : tie.Need-of-byte-requires Inv-loop μ-loop
-of-byte-requires c κs = search needs
+cast-number : tie.Need-cast-number Inv-loop μ-loop
+cast-number c = search needs
 
 number-requires : tie.Need-number-requires Inv-loop μ-loop
 number-requires c κs = search needs
@@ -38,11 +37,11 @@ loop-less c = search needs
 loop-again : tie.Need-loop-again Inv-loop μ-loop
 loop-again c = search needs
 
-slice-aggregate-put-2 : tie.Need-slice-aggregate-put-2 Inv-loop μ-loop
-slice-aggregate-put-2 c = search needs
+slice-aggregate-text : tie.Need-slice-aggregate-text Inv-loop μ-loop
+slice-aggregate-text c = search needs
 
-put-requires-2 : tie.Need-put-requires-2 Inv-loop μ-loop
-put-requires-2 c κs = search needs
+text-requires-2 : tie.Need-text-requires-2 Inv-loop μ-loop
+text-requires-2 c κs = search needs
 
 returns : tie.Need-returns Inv-loop μ-loop
 returns c = search needs
@@ -53,15 +52,15 @@ byte-row-spec =
     (tie.spec
     Inv-loop
     μ-loop
-    slice-aggregate-put
-    put-requires
+    text-requires
+    clip-requires
     loop-holds
-    shared-slice-read-of-byte
-    of-byte-requires
+    array-read-number
+    cast-number
     number-requires
     add-i
     loop-less
     loop-again
-    slice-aggregate-put-2
-    put-requires-2
+    slice-aggregate-text
+    text-requires-2
     returns)

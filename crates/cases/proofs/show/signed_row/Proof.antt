@@ -1,18 +1,18 @@
 -- Nothing has to hold from turn to turn; the place nears the row's end.
 use Prim.Native.Nat.{_-_}
-use borrow.Author.Needs.{needs}
 use lib.ListN.{length}
+use borrow.Author.Needs.{needs}
 use Rattle.cases.proofs.show.signed_row.Statement.{statement}
 use Rattle.cases.proofs.show.signed_row.Tie as tie
 
 abbrev Inv-loop : tie.InvT-loop
-Inv-loop name row i₀ t5 i = Unit {0}
+Inv-loop name row i₀ t5 t6 i = Unit {0}
 
 abbrev μ-loop : tie.MeasureT-loop
-μ-loop name row i₀ t5 i = length row - i
+μ-loop name row i₀ t5 t6 i = length row - i
 
-put-requires : tie.Need-put-requires Inv-loop μ-loop
-put-requires c κs = search needs
+text-requires : tie.Need-text-requires Inv-loop μ-loop
+text-requires c κs = search needs
 
 loop-holds : tie.Need-loop-holds Inv-loop μ-loop
 loop-holds c = search needs
@@ -22,6 +22,12 @@ mul-x c = search needs
 
 shared-slice-copy-out-x : tie.Need-shared-slice-copy-out-x Inv-loop μ-loop
 shared-slice-copy-out-x c = search needs
+
+slice-aggregate-text : tie.Need-slice-aggregate-text Inv-loop μ-loop
+slice-aggregate-text c = search needs
+
+text-requires-2 : tie.Need-text-requires-2 Inv-loop μ-loop
+text-requires-2 c κs = search needs
 
 signed-requires : tie.Need-signed-requires Inv-loop μ-loop
 signed-requires c κs = search needs
@@ -35,11 +41,11 @@ loop-less c = search needs
 loop-again : tie.Need-loop-again Inv-loop μ-loop
 loop-again c = search needs
 
-slice-aggregate-put : tie.Need-slice-aggregate-put Inv-loop μ-loop
-slice-aggregate-put c = search needs
+slice-aggregate-text-2 : tie.Need-slice-aggregate-text-2 Inv-loop μ-loop
+slice-aggregate-text-2 c = search needs
 
-put-requires-2 : tie.Need-put-requires-2 Inv-loop μ-loop
-put-requires-2 c κs = search needs
+text-requires-3 : tie.Need-text-requires-3 Inv-loop μ-loop
+text-requires-3 c κs = search needs
 
 returns : tie.Need-returns Inv-loop μ-loop
 returns c = search needs
@@ -50,14 +56,16 @@ signed-row-spec =
     (tie.spec
     Inv-loop
     μ-loop
-    put-requires
+    text-requires
     loop-holds
     mul-x
     shared-slice-copy-out-x
+    slice-aggregate-text
+    text-requires-2
     signed-requires
     add-i
     loop-less
     loop-again
-    slice-aggregate-put
-    put-requires-2
+    slice-aggregate-text-2
+    text-requires-3
     returns)

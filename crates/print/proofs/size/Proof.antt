@@ -1,9 +1,10 @@
--- `tally::size` meets its contract: by the sign of the number. Assumes nothing.
+-- `print::size` meets its contract: by the sign of the number. Assumes nothing.
+use native.Mathlib.Omega.{arith}
 use mir.Facts.{toZ-ofZ}
-use Rattle.tally.proofs.Signs.{turned-fits, turned-cast, turned-add, turned-size, plain-cast}
+use Rattle.print.proofs.Signs.{turned-fits, turned-cast, turned-most, turned-size, plain-cast}
 use borrow.Author.Needs.{needs}
-use Rattle.tally.proofs.size.Statement.{statement}
-use Rattle.tally.proofs.size.Tie as tie
+use Rattle.print.proofs.size.Statement.{statement}
+use Rattle.print.proofs.size.Tie as tie
 
 sub-result : tie.Need-sub-result
 sub-result c = simp (toZ-ofZ (c .before .fits .x)) (turned-fits (c .before .args .x) (c .before .fits .x) (simp (toZ-ofZ (c .before .fits .x)) at (c .if1 .taken)))
@@ -12,7 +13,7 @@ cast-result : tie.Need-cast-result
 cast-result c = simp (toZ-ofZ (c .before .fits .x)) (turned-cast (c .before .args .x) (c .before .fits .x) (simp (toZ-ofZ (c .before .fits .x)) at (c .if1 .taken)))
 
 add-result : tie.Need-add-result
-add-result c = simp (toZ-ofZ (c .before .fits .x)) (turned-add (c .before .args .x) (c .before .fits .x) (simp (toZ-ofZ (c .before .fits .x)) at (c .if1 .taken)))
+add-result c = simp (toZ-ofZ (c .before .fits .x)) (let m = turned-most (c .before .args .x) (c .before .fits .x) (simp (toZ-ofZ (c .before .fits .x)) at (c .if1 .taken)) in omega arith)
 
 returns : tie.Need-returns
 returns c = simp (toZ-ofZ (c .before .fits .x)) (turned-size (c .before .args .x) (c .before .fits .x) (simp (toZ-ofZ (c .before .fits .x)) at (c .if1 .taken)))

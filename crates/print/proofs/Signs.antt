@@ -1,6 +1,6 @@
 -- Laws of a signed 32-bit number and its size. Assumes nothing.
 use Prim.Native.Nat.{ℕ, suc, _+_, _<_, _^_}
-use mathlib.Core.Path.{_≡_, refl, sym, ap, _∙_}
+use mathlib.Core.Path.{_≡_, ap, _∙_}
 use mathlib.Core.Bool.{true, false}
 use native.Mathlib.Omega.{arith}
 use native.Mathlib.Numerals.{add-one}
@@ -33,8 +33,8 @@ size-mag (negsuc n) h = add-one n
 pub turned-size : (x : ℤ) → SFits w32 x → ltZ x (pos 0) ≡ true → natAbs (toZ w32 (ofZ w32 (negsuc 0 -ℤ x))) + 1 ≡ natAbs x
 turned-size x f h = rw (turned-is x f h) (size-mag x h)
 
-pub turned-add : (x : ℤ) → SFits w32 x → ltZ x (pos 0) ≡ true → Fits w64 (natAbs (toZ w32 (ofZ w32 (negsuc 0 -ℤ x))) + 1)
-turned-add x f h = rw (turned-is x f h) (let g : mag x < 2 ^ 31 = f .sfits in omega arith)
+pub turned-most : (x : ℤ) → SFits w32 x → ltZ x (pos 0) ≡ true → natAbs (toZ w32 (ofZ w32 (negsuc 0 -ℤ x))) < 2 ^ 31
+turned-most x f h = rw (turned-is x f h) (f .sfits)
 
 pub plain-cast : (x : ℤ) → SFits w32 x → ltZ x (pos 0) ≡ false → T (nonNeg x) × Fits w64 (natAbs x)
 plain-cast (pos n) f h = (tt, let g : n < 2 ^ 31 = f .sfits in omega arith)

@@ -1,10 +1,10 @@
 -- Both rows keep their lengths; the place nears the text's end.
 use Prim.Native.Nat.{_-_}
-use borrow.Author.Needs.{needs}
 use lib.ListN.{length}
 use mathlib.Core.Path.{_≡_}
-use Rattle.cases.proofs.sections.Statement.{statement}
-use Rattle.cases.proofs.sections.Tie as tie
+use borrow.Author.Needs.{needs}
+use Rattle.cases.proofs.lines.Statement.{statement}
+use Rattle.cases.proofs.lines.Tie as tie
 
 abbrev Inv-loop : tie.InvT-loop
 Inv-loop text calls₀ answers₀ s₀ at₀ calls answers s at = (length calls ≡ length calls₀) × (length answers ≡ length answers₀)
@@ -18,20 +18,20 @@ start-requires c κs = search needs
 loop-holds : tie.Need-loop-holds Inv-loop μ-loop
 loop-holds c = search needs
 
-section-end-requires : tie.Need-section-end-requires Inv-loop μ-loop
-section-end-requires c κs = search needs
+next-line-requires : tie.Need-next-line-requires Inv-loop μ-loop
+next-line-requires c κs = search needs
 
-sub-section : tie.Need-sub-section Inv-loop μ-loop
-sub-section c = search needs
+sub-line : tie.Need-sub-line Inv-loop μ-loop
+sub-line c = search needs
 
-part-section-start : tie.Need-part-section-start Inv-loop μ-loop
-part-section-start c = search needs
+part-line-start : tie.Need-part-line-start Inv-loop μ-loop
+part-line-start c = search needs
 
-part-section-end : tie.Need-part-section-end Inv-loop μ-loop
-part-section-end c = search needs
+part-line-end : tie.Need-part-line-end Inv-loop μ-loop
+part-line-end c = search needs
 
-section-requires : tie.Need-section-requires Inv-loop μ-loop
-section-requires c κs = search needs
+line-requires : tie.Need-line-requires Inv-loop μ-loop
+line-requires c κs = search needs
 
 loop-less : tie.Need-loop-less Inv-loop μ-loop
 loop-less c = search needs
@@ -48,19 +48,19 @@ same-length-2 c = search needs
 returns : tie.Need-returns Inv-loop μ-loop
 returns c = search needs
 
-pub sections-spec : {M : Type 1} → statement M
-sections-spec =
+pub lines-spec : {M : Type 1} → statement M
+lines-spec =
     tie.close
     (tie.spec
     Inv-loop
     μ-loop
     start-requires
     loop-holds
-    section-end-requires
-    sub-section
-    part-section-start
-    part-section-end
-    section-requires
+    next-line-requires
+    sub-line
+    part-line-start
+    part-line-end
+    line-requires
     loop-less
     loop-again
     same-length
