@@ -129,17 +129,22 @@ wrote {n} {s = s} {ts = ts} v f a x old S L l e h I q ek ex more =
       logged = rw (← at-some S v f l e h q) (more n ts L (read-inside (S .cells) old (2 * a + f) q));
     }
 
+-- the cell that w holds is w's
+pub linked-as : {n : ℕ} {ks : List ℕ} {xs vs : List ℤ} {log : List ℕ} {r : ℕ} (s : Shape) (us : List Transaction) (v f w b : ℕ)
+    → Held n vs (s .variables) → w < length vs → b ≡ addressOf n (getD vs w (pos 0)) → b < n
+    → Wrote n ks xs vs log r (write s v f (Cell b)) us → Wrote n ks xs vs log r (write s v f (toCell (var s w))) us
+unfolding toCell var
+linked-as s us v f w b H l e h W = record { shown = rw (held-some H w l e h) (W .shown); logged = W .logged }
+
 pub linked : {n : ℕ} {ks : List ℕ} {xs vs : List ℤ} {log log′ : List ℕ} {l r : ℕ} (s : Shape) (ts : List Transaction) (v f w b : ℕ)
     → Held n vs (s .variables) → w < length vs → b ≡ addressOf n (getD vs w (pos 0)) → b < n
     → Wrote n ks xs vs log l (write s v f (Cell b)) (ts ++ drops (at s v f))
     → ((n : ℕ) (us : List Transaction) → Logged n log l us → b < n → Logged n log′ r (us ++ (transaction 2 b ∷ [])))
     → Wrote n ks xs vs log′ r (write s v f (toCell (var s w))) (ts ++ (drops (at s v f) ++ makes (var s w)))
-unfolding toCell var makes transaction
+unfolding var makes transaction
 linked {n} s ts v f w b H l e h W more =
-    record {
-      shown = rw (held-some H w l e h) (W .shown);
-      logged = rw (held-some H w l e h, ← append-assoc) (more n (ts ++ drops (at s v f)) (W .logged) h);
-    }
+    linked-as s _ v f w b H l e h
+    (record { shown = W .shown; logged = rw (held-some H w l e h, ← append-assoc) (more n (ts ++ drops (at s v f)) (W .logged) h) })
 
 -- ---- two variables
 
