@@ -1,10 +1,10 @@
 // Is a heap sound? The rows may hold anything.
 ghost use mathlib.Core.Path.{_≡_};
-ghost use Prim.Native.Nat.{ℕ, _*_, _<_, _≤_};
+ghost use Prim.Native.Nat.{_*_, _≤_};
 ghost use lib.ListN.{length, replicate};
 ghost use Rattle.rules.specs.Head.{Says, Limits};
 ghost use Rattle.rules.specs.Rows.{lent};
-ghost use Rattle.rules.specs.Sound.{TableRow, FreeList, Lengths, Sized, Sound};
+ghost use Rattle.rules.specs.Sound.{FreeList, Lengths, Sized, Sound};
 ghost use Rattle.rules.specs.Refusals.{outcome, leaves, auditOf};
 ghost use Rattle.checks.specs.CellRows.{CellRows};
 ghost use Rattle.checks.specs.Counts.{TablesReady, Within};

@@ -1,11 +1,11 @@
 // The ten calls on rows, without the settle before them: what refuses a call, what it needs, what it does.
 ghost use mathlib.Core.Path.{_≡_};
-ghost use mathlib.Core.Bool.{Bool, true, _&&_, cond};
+ghost use mathlib.Core.Bool.{_&&_, cond};
 ghost use mathlib.Core.List.{List, _++_};
 ghost use mathlib.Core.Option.{Option, none};
-ghost use Prim.Native.Nat.{ℕ, _+_, _*_, _-_, _<_, _≤_};
+ghost use Prim.Native.Nat.{ℕ, _<_, _≤_};
 ghost use lib.ListN.{length, getD, set};
-ghost use lib.IntN.{ℤ, pos};
+ghost use lib.IntN.{pos};
 ghost use Rattle.rules.specs.declared.Used.{Used};
 ghost use Rattle.rules.specs.Head.{Sizes};
 ghost use Rattle.rules.specs.Rules.{Transaction};
@@ -37,14 +37,7 @@ fn is_held(variables: &[i32], v: usize, n: usize) -> bool
 }
 
 // Field f of v's cell, nothing where v holds nothing.
-fn field_of(
-    kinds: &[u8],
-    values: &[i32],
-    variables: &[i32],
-    n: usize,
-    v: usize,
-    f: usize,
-) -> Field
+fn field_of(kinds: &[u8], values: &[i32], variables: &[i32], n: usize, v: usize, f: usize) -> Field
     requires { ⌜ Reach n (now kinds) (now values) (now variables) v f ⌝ }
     ensures { λ r. ⌜ ((s : Shape) → Shown n (now (kinds .entry)) (now (values .entry)) (now (variables .entry)) s → r ≡ at s v f) ⌝ }
 {

@@ -5,10 +5,10 @@ ghost use Rattle.rules.specs.Refusals.{leaves, leavesWith, freshOf, auditOf, ba
 use audit::answer;
 use audit::sized;
 use audit::sound;
-use words::calls_right;
 use cells::fresh_rows;
 use rules::Head;
 use rules::Outcome;
+use words::calls_right;
 use working::run_batch;
 
 // A fresh heap of the four sizes, written into the rows: 0 and its head, or 1 and a head of zeros.

@@ -1,12 +1,9 @@
 // A batch's calls, worked one after the other, and the settle at its end.
 ghost use mathlib.Core.Path.{_≡_};
-ghost use mathlib.Core.Bool.{Bool};
 ghost use mathlib.Core.List.{List};
 ghost use mathlib.Core.Option.{some};
-ghost use Prim.Native.Nat.{ℕ, _+_, _*_, _≤_, _<_};
+ghost use Prim.Native.Nat.{ℕ, _+_, _*_, _≤_};
 ghost use lib.ListN.{length};
-ghost use lib.IntN.{ℤ, pos};
-ghost use Rattle.rules.specs.declared.Head.{Head};
 ghost use Rattle.rules.specs.declared.Call.{Call};
 ghost use Rattle.rules.specs.Head.{Sizes, sizesOf};
 ghost use Rattle.rules.specs.Settle.{Heap};
@@ -17,9 +14,7 @@ ghost use Rattle.words.specs.Words.{callAt};
 ghost use Rattle.calls.specs.Seen.{needs};
 ghost use Rattle.working.specs.Working.{wants, valued, LeftBy, Standing, Workable, Answered, Callable, Turnable, Turned, Runnable, Ran, Endable, Finished, Batched, startOf};
 use calls::Acted;
-use words::Decoded;
 use calls::act;
-use words::call_at;
 use calls::check;
 use calls::need;
 use cells::value_of;
@@ -30,6 +25,8 @@ use rules::Used;
 use settle::Room;
 use settle::settle;
 use settle::settle_if;
+use words::Decoded;
+use words::call_at;
 
 // Where a batch stands: the log's length, the first free address, the used lengths, the cells freed so far.
 pub struct State {

@@ -5,17 +5,6 @@ use Rattle.calls.proofs.Arms.{can-take, can-reach, can-link, can-put, c
 use borrow.Author.Needs.{needs}
 use Rattle.calls.proofs.act.Statement.{statement}
 use Rattle.calls.proofs.act.Tie as tie
-use Rattle.calls.proofs.act.Reads as reads
-use Rattle.calls.proofs.act.Lts as lts
-use Rattle.calls.proofs.copy.Reads as copy-reads
-use Rattle.calls.proofs.done.Reads as done-reads
-use Rattle.calls.proofs.follow.Reads as follow-reads
-use Rattle.calls.proofs.let_go.Reads as let-go-reads
-use Rattle.calls.proofs.link.Reads as link-reads
-use Rattle.calls.proofs.read.Reads as read-reads
-use Rattle.calls.proofs.same.Reads as same-reads
-use Rattle.calls.proofs.take.Reads as take-reads
-use Rattle.calls.proofs.write.Reads as write-reads
 
 enum-known-call : tie.Need-enum-known-call
 enum-known-call c = search needs

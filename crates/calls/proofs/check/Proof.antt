@@ -3,12 +3,6 @@ use Rattle.calls.proofs.Seeing.{reach}
 use borrow.Author.Needs.{needs}
 use Rattle.calls.proofs.check.Statement.{statement}
 use Rattle.calls.proofs.check.Tie as tie
-use Rattle.calls.proofs.check.Reads as reads
-use Rattle.calls.proofs.check.Lts as lts
-use Rattle.calls.proofs.check_follow.Reads as check-follow-reads
-use Rattle.calls.proofs.check_one.Reads as check-one-reads
-use Rattle.calls.proofs.check_read.Reads as check-read-reads
-use Rattle.calls.proofs.check_two.Reads as check-two-reads
 
 enum-told : tie.Need-enum-told
 enum-told c = search needs

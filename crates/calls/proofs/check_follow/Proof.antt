@@ -4,13 +4,6 @@ use Rattle.rules.specs.Call.{orElse, want, var, isCell}
 use borrow.Author.Needs.{needs}
 use Rattle.calls.proofs.check_follow.Statement.{statement}
 use Rattle.calls.proofs.check_follow.Tie as tie
-use Rattle.calls.proofs.check_follow.Reads as reads
-use Rattle.calls.proofs.check_follow.Lts as lts
-use Rattle.calls.proofs.check_one.Reads as check-one-reads
-use Rattle.calls.proofs.field_of.Reads as field-of-reads
-use Rattle.calls.proofs.is_cell.Reads as is-cell-reads
-use Rattle.calls.proofs.or_else.Reads as or-else-reads
-use Rattle.calls.proofs.want.Reads as want-reads
 
 field-of-requires : tie.Need-field-of-requires
 field-of-requires c κs = search needs

@@ -4,10 +4,6 @@ use Rattle.rules.specs.Call.{want}
 use borrow.Author.Needs.{needs}
 use Rattle.calls.proofs.check_one.Statement.{statement}
 use Rattle.calls.proofs.check_one.Tie as tie
-use Rattle.calls.proofs.check_one.Reads as reads
-use Rattle.calls.proofs.check_one.Lts as lts
-use Rattle.calls.proofs.is_held.Reads as is-held-reads
-use Rattle.calls.proofs.want.Reads as want-reads
 
 is-held-requires : tie.Need-is-held-requires
 is-held-requires c κs = search needs

@@ -4,13 +4,6 @@ use Rattle.rules.specs.Call.{orElse, want, var, isFigure}
 use borrow.Author.Needs.{needs}
 use Rattle.calls.proofs.check_read.Statement.{statement}
 use Rattle.calls.proofs.check_read.Tie as tie
-use Rattle.calls.proofs.check_read.Reads as reads
-use Rattle.calls.proofs.check_read.Lts as lts
-use Rattle.calls.proofs.check_one.Reads as check-one-reads
-use Rattle.calls.proofs.field_of.Reads as field-of-reads
-use Rattle.calls.proofs.is_figure.Reads as is-figure-reads
-use Rattle.calls.proofs.or_else.Reads as or-else-reads
-use Rattle.calls.proofs.want.Reads as want-reads
 
 field-of-requires : tie.Need-field-of-requires
 field-of-requires c κs = search needs

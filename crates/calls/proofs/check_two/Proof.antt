@@ -4,10 +4,6 @@ use Rattle.calls.proofs.Seeing.{both-11}
 use borrow.Author.Needs.{needs}
 use Rattle.calls.proofs.check_two.Statement.{statement}
 use Rattle.calls.proofs.check_two.Tie as tie
-use Rattle.calls.proofs.check_two.Reads as reads
-use Rattle.calls.proofs.check_two.Lts as lts
-use Rattle.calls.proofs.check_one.Reads as check-one-reads
-use Rattle.calls.proofs.or_else.Reads as or-else-reads
 
 check-one-requires : tie.Need-check-one-requires
 check-one-requires c κs = search needs

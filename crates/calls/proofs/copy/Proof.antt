@@ -3,10 +3,6 @@ use Rattle.calls.proofs.Acting.{copied}
 use borrow.Author.Needs.{needs}
 use Rattle.calls.proofs.copy.Statement.{statement}
 use Rattle.calls.proofs.copy.Tie as tie
-use Rattle.calls.proofs.copy.Reads as reads
-use Rattle.calls.proofs.copy.Lts as lts
-use Rattle.cells.proofs.held.Reads as held-reads
-use Rattle.cells.proofs.hold.Reads as hold-reads
 
 held-requires : tie.Need-held-requires
 held-requires c κs = search needs

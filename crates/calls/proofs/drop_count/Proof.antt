@@ -3,8 +3,6 @@ use Rattle.rules.specs.Settle.{drops}
 use borrow.Author.Needs.{needs}
 use Rattle.calls.proofs.drop_count.Statement.{statement}
 use Rattle.calls.proofs.drop_count.Tie as tie
-use Rattle.calls.proofs.drop_count.Reads as reads
-use Rattle.calls.proofs.drop_count.Lts as lts
 
 enum-told : tie.Need-enum-told
 enum-told c = search needs

@@ -2,10 +2,6 @@ use Rattle.calls.proofs.Seeing.{at-some, at-none}
 use borrow.Author.Needs.{needs}
 use Rattle.calls.proofs.field_of.Statement.{statement}
 use Rattle.calls.proofs.field_of.Tie as tie
-use Rattle.calls.proofs.field_of.Reads as reads
-use Rattle.calls.proofs.field_of.Lts as lts
-use Rattle.cells.proofs.field_at.Reads as field-at-reads
-use Rattle.cells.proofs.held.Reads as held-reads
 
 held-requires : tie.Need-held-requires
 held-requires c κs = search needs

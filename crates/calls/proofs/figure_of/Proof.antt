@@ -2,8 +2,6 @@ use Rattle.rules.specs.Call.{figureOf}
 use borrow.Author.Needs.{needs}
 use Rattle.calls.proofs.figure_of.Statement.{statement}
 use Rattle.calls.proofs.figure_of.Tie as tie
-use Rattle.calls.proofs.figure_of.Reads as reads
-use Rattle.calls.proofs.figure_of.Lts as lts
 
 enum-told : tie.Need-enum-told
 enum-told c = search needs

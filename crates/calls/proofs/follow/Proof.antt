@@ -3,11 +3,6 @@ use Rattle.calls.proofs.Acting.{followed}
 use borrow.Author.Needs.{needs}
 use Rattle.calls.proofs.follow.Statement.{statement}
 use Rattle.calls.proofs.follow.Tie as tie
-use Rattle.calls.proofs.follow.Reads as reads
-use Rattle.calls.proofs.follow.Lts as lts
-use Rattle.calls.proofs.field_of.Reads as field-of-reads
-use Rattle.calls.proofs.target_or.Reads as target-or-reads
-use Rattle.cells.proofs.hold.Reads as hold-reads
 
 field-of-requires : tie.Need-field-of-requires
 field-of-requires c κs = search needs

@@ -2,8 +2,6 @@ use Rattle.rules.specs.Call.{isCell}
 use borrow.Author.Needs.{needs}
 use Rattle.calls.proofs.is_cell.Statement.{statement}
 use Rattle.calls.proofs.is_cell.Tie as tie
-use Rattle.calls.proofs.is_cell.Reads as reads
-use Rattle.calls.proofs.is_cell.Lts as lts
 
 enum-told : tie.Need-enum-told
 enum-told c = search needs

@@ -2,8 +2,6 @@ use Rattle.rules.specs.Call.{isFigure}
 use borrow.Author.Needs.{needs}
 use Rattle.calls.proofs.is_figure.Statement.{statement}
 use Rattle.calls.proofs.is_figure.Tie as tie
-use Rattle.calls.proofs.is_figure.Reads as reads
-use Rattle.calls.proofs.is_figure.Lts as lts
 
 enum-told : tie.Need-enum-told
 enum-told c = search needs

@@ -2,9 +2,6 @@ use Rattle.calls.proofs.Seeing.{held-test}
 use borrow.Author.Needs.{needs}
 use Rattle.calls.proofs.is_held.Statement.{statement}
 use Rattle.calls.proofs.is_held.Tie as tie
-use Rattle.calls.proofs.is_held.Reads as reads
-use Rattle.calls.proofs.is_held.Lts as lts
-use Rattle.cells.proofs.held.Reads as held-reads
 
 held-requires : tie.Need-held-requires
 held-requires c κs = search needs

@@ -3,9 +3,6 @@ use Rattle.calls.proofs.Acting.{gone}
 use borrow.Author.Needs.{needs}
 use Rattle.calls.proofs.let_go.Statement.{statement}
 use Rattle.calls.proofs.let_go.Tie as tie
-use Rattle.calls.proofs.let_go.Reads as reads
-use Rattle.calls.proofs.let_go.Lts as lts
-use Rattle.cells.proofs.hold.Reads as hold-reads
 
 hold-requires : tie.Need-hold-requires
 hold-requires c κs = search needs

@@ -3,11 +3,6 @@ use Rattle.calls.proofs.Arms.{link-near, link-writable, link-room}
 use borrow.Author.Needs.{needs}
 use Rattle.calls.proofs.link.Statement.{statement}
 use Rattle.calls.proofs.link.Tie as tie
-use Rattle.calls.proofs.link.Reads as reads
-use Rattle.calls.proofs.link.Lts as lts
-use Rattle.calls.proofs.write.Reads as write-reads
-use Rattle.cells.proofs.add_entry.Reads as add-entry-reads
-use Rattle.cells.proofs.held.Reads as held-reads
 
 held-requires : tie.Need-held-requires
 held-requires c κs = search needs

@@ -3,9 +3,6 @@ use Rattle.calls.proofs.Seeing.{made}
 use borrow.Author.Needs.{needs}
 use Rattle.calls.proofs.make_count.Statement.{statement}
 use Rattle.calls.proofs.make_count.Tie as tie
-use Rattle.calls.proofs.make_count.Reads as reads
-use Rattle.calls.proofs.make_count.Lts as lts
-use Rattle.calls.proofs.is_held.Reads as is-held-reads
 
 is-held-requires : tie.Need-is-held-requires
 is-held-requires c κs = search needs

@@ -4,10 +4,6 @@ use Rattle.calls.proofs.Seeing.{reach}
 use borrow.Author.Needs.{needs}
 use Rattle.calls.proofs.need.Statement.{statement}
 use Rattle.calls.proofs.need.Tie as tie
-use Rattle.calls.proofs.need.Reads as reads
-use Rattle.calls.proofs.need.Lts as lts
-use Rattle.calls.proofs.need_link.Reads as need-link-reads
-use Rattle.calls.proofs.need_store.Reads as need-store-reads
 
 enum-told : tie.Need-enum-told
 enum-told c = search needs

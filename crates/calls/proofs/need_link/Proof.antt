@@ -7,11 +7,6 @@ use Rattle.rules.specs.Call.{var}
 use borrow.Author.Needs.{needs}
 use Rattle.calls.proofs.need_link.Statement.{statement}
 use Rattle.calls.proofs.need_link.Tie as tie
-use Rattle.calls.proofs.need_link.Reads as reads
-use Rattle.calls.proofs.need_link.Lts as lts
-use Rattle.calls.proofs.drop_count.Reads as drop-count-reads
-use Rattle.calls.proofs.field_of.Reads as field-of-reads
-use Rattle.calls.proofs.make_count.Reads as make-count-reads
 
 field-of-requires : tie.Need-field-of-requires
 field-of-requires c κs = search needs

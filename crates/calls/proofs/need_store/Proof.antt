@@ -5,10 +5,6 @@ use Rattle.rules.specs.Settle.{drops}
 use borrow.Author.Needs.{needs}
 use Rattle.calls.proofs.need_store.Statement.{statement}
 use Rattle.calls.proofs.need_store.Tie as tie
-use Rattle.calls.proofs.need_store.Reads as reads
-use Rattle.calls.proofs.need_store.Lts as lts
-use Rattle.calls.proofs.drop_count.Reads as drop-count-reads
-use Rattle.calls.proofs.field_of.Reads as field-of-reads
 
 field-of-requires : tie.Need-field-of-requires
 field-of-requires c κs = search needs

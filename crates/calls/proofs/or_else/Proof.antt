@@ -1,8 +1,6 @@
 use Rattle.calls.proofs.Seeing.{else-zero, else-more}
 use Rattle.calls.proofs.or_else.Statement.{statement}
 use Rattle.calls.proofs.or_else.Tie as tie
-use Rattle.calls.proofs.or_else.Reads as reads
-use Rattle.calls.proofs.or_else.Lts as lts
 
 returns : tie.Need-returns
 returns c = else-zero _ _ (c .if1 .taken)

@@ -4,10 +4,6 @@ use Rattle.cells.proofs.Signed.{back}
 use borrow.Author.Needs.{needs}
 use Rattle.calls.proofs.read.Statement.{statement}
 use Rattle.calls.proofs.read.Tie as tie
-use Rattle.calls.proofs.read.Reads as reads
-use Rattle.calls.proofs.read.Lts as lts
-use Rattle.calls.proofs.field_of.Reads as field-of-reads
-use Rattle.calls.proofs.figure_of.Reads as figure-of-reads
 
 field-of-requires : tie.Need-field-of-requires
 field-of-requires c κs = search needs

@@ -2,9 +2,6 @@ use Rattle.calls.proofs.Acting.{same-none, same-yes, same-no}
 use borrow.Author.Needs.{needs}
 use Rattle.calls.proofs.same.Statement.{statement}
 use Rattle.calls.proofs.same.Tie as tie
-use Rattle.calls.proofs.same.Reads as reads
-use Rattle.calls.proofs.same.Lts as lts
-use Rattle.cells.proofs.held.Reads as held-reads
 
 held-requires : tie.Need-held-requires
 held-requires c κs = search needs

@@ -3,12 +3,6 @@ use Rattle.calls.proofs.Acting.{none-free, took}
 use borrow.Author.Needs.{needs}
 use Rattle.calls.proofs.take.Statement.{statement}
 use Rattle.calls.proofs.take.Tie as tie
-use Rattle.calls.proofs.take.Reads as reads
-use Rattle.calls.proofs.take.Lts as lts
-use Rattle.calls.proofs.done.Reads as done-reads
-use Rattle.cells.proofs.add_entry.Reads as add-entry-reads
-use Rattle.cells.proofs.hold.Reads as hold-reads
-use Rattle.cells.proofs.take_free.Reads as take-free-reads
 
 returns : tie.Need-returns
 returns c = λ s cap zs ms cs work u h e W. none-free s _ _ e (c .if1 .taken) W refl refl refl refl

@@ -4,8 +4,6 @@ use Rattle.rules.specs.Call.{target}
 use borrow.Author.Needs.{needs}
 use Rattle.calls.proofs.target_or.Statement.{statement}
 use Rattle.calls.proofs.target_or.Tie as tie
-use Rattle.calls.proofs.target_or.Reads as reads
-use Rattle.calls.proofs.target_or.Lts as lts
 
 enum-told : tie.Need-enum-told
 enum-told c = search needs

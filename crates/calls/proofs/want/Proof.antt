@@ -1,8 +1,6 @@
 use Rattle.rules.specs.Call.{want}
 use Rattle.calls.proofs.want.Statement.{statement}
 use Rattle.calls.proofs.want.Tie as tie
-use Rattle.calls.proofs.want.Reads as reads
-use Rattle.calls.proofs.want.Lts as lts
 
 returns : tie.Need-returns
 unfolding want

@@ -4,12 +4,6 @@ use Rattle.calls.proofs.Acting.{near, write-place, write-old, wrote}
 use borrow.Author.Needs.{needs}
 use Rattle.calls.proofs.write.Statement.{statement}
 use Rattle.calls.proofs.write.Tie as tie
-use Rattle.calls.proofs.write.Reads as reads
-use Rattle.calls.proofs.write.Lts as lts
-use Rattle.cells.proofs.field_at.Reads as field-at-reads
-use Rattle.cells.proofs.held.Reads as held-reads
-use Rattle.cells.proofs.log_old.Reads as log-old-reads
-use Rattle.cells.proofs.put_field.Reads as put-field-reads
 
 held-requires : tie.Need-held-requires
 held-requires c κs = search needs

@@ -2,13 +2,6 @@ use mathlib.Core.Path.{refl, _∙_}
 use Rattle.heap.proofs.Entering.{refused-1, refused-2, refused-3, refused-4, is-sized, runnable-by, accepted-by}
 use Rattle.heap.proofs.batch.Statement.{statement}
 use Rattle.heap.proofs.batch.Tie as tie
-use Rattle.heap.proofs.batch.Reads as reads
-use Rattle.heap.proofs.batch.Lts as lts
-use Rattle.audit.proofs.answer.Reads as answer-reads
-use Rattle.audit.proofs.sized.Reads as sized-reads
-use Rattle.audit.proofs.sound.Reads as sound-reads
-use Rattle.words.proofs.calls_right.Reads as calls-right-reads
-use Rattle.working.proofs.run_batch.Reads as run-batch-reads
 
 sized-requires : tie.Need-sized-requires
 sized-requires c κs = tt

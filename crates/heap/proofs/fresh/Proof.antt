@@ -1,12 +1,6 @@
 use Rattle.heap.proofs.Entering.{no-fresh, fresh-sized, fitting, made-fresh}
 use Rattle.heap.proofs.fresh.Statement.{statement}
 use Rattle.heap.proofs.fresh.Tie as tie
-use Rattle.heap.proofs.fresh.Reads as reads
-use Rattle.heap.proofs.fresh.Lts as lts
-use Rattle.audit.proofs.answer.Reads as answer-reads
-use Rattle.audit.proofs.sized.Reads as sized-reads
-use Rattle.cells.proofs.fresh_rows.Reads as fresh-rows-reads
-use Rattle.rules.proofs.Head.fresh.Reads as fresh-reads
 
 fresh-requires : tie.Need-fresh-requires
 fresh-requires c κs = tt

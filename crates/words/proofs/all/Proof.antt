@@ -1,7 +1,5 @@
 use Rattle.words.proofs.all.Statement.{statement}
 use Rattle.words.proofs.all.Tie as tie
-use Rattle.words.proofs.all.Reads as reads
-use Rattle.words.proofs.all.Lts as lts
 
 returns : tie.Need-returns
 returns c = rw (c .before .if1 .taken, c .if2 .taken)

@@ -2,9 +2,6 @@ use Rattle.cells.proofs.Signed.{back}
 use borrow.Author.Needs.{needs}
 use Rattle.words.proofs.call_at.Statement.{statement}
 use Rattle.words.proofs.call_at.Tie as tie
-use Rattle.words.proofs.call_at.Reads as reads
-use Rattle.words.proofs.call_at.Lts as lts
-use Rattle.words.proofs.call_of.Reads as call-of-reads
 
 mul-call-of : tie.Need-mul-call-of
 mul-call-of c = search needs

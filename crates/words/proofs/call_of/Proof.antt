@@ -6,16 +6,6 @@ use Rattle.rules.specs.declared.Call.the-variants.{New, Copy, Clear, Link, Put,
 use borrow.Author.Needs.{needs}
 use Rattle.words.proofs.call_of.Statement.{statement}
 use Rattle.words.proofs.call_of.Tie as tie
-use Rattle.words.proofs.call_of.Reads as reads
-use Rattle.words.proofs.call_of.Lts as lts
-use Rattle.words.proofs.field_and_figure.Reads as field-and-figure-reads
-use Rattle.words.proofs.field_and_variable.Reads as field-and-variable-reads
-use Rattle.words.proofs.given.Reads as given-reads
-use Rattle.words.proofs.no_words.Reads as no-words-reads
-use Rattle.words.proofs.one_field.Reads as one-field-reads
-use Rattle.words.proofs.one_variable.Reads as one-variable-reads
-use Rattle.words.proofs.two_variables.Reads as two-variables-reads
-use Rattle.cells.proofs.address.Reads as address-reads
 
 one-variable-requires : tie.Need-one-variable-requires
 one-variable-requires c κs = search needs

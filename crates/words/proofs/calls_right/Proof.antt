@@ -7,10 +7,6 @@ use Rattle.words.specs.Words.{isSome}
 use Rattle.words.proofs.Listing.{Passed, passed-none, passed-more, passed-all, too-many, stops-short, stops-bad, says-no, says-yes}
 use Rattle.words.proofs.calls_right.Statement.{statement}
 use Rattle.words.proofs.calls_right.Tie as tie
-use Rattle.words.proofs.calls_right.Reads as reads
-use Rattle.words.proofs.calls_right.Lts as lts
-use Rattle.words.proofs.call_at.Reads as call-at-reads
-use Rattle.words.proofs.is_call.Reads as is-call-reads
 
 abbrev Inv-loop : tie.InvT-loop
 Inv-loop calls m i₀ i = Passed m calls i

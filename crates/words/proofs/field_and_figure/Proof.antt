@@ -4,10 +4,6 @@ use mathlib.Core.Path.{refl}
 use borrow.Author.Needs.{needs}
 use Rattle.words.proofs.field_and_figure.Statement.{statement}
 use Rattle.words.proofs.field_and_figure.Tie as tie
-use Rattle.words.proofs.field_and_figure.Reads as reads
-use Rattle.words.proofs.field_and_figure.Lts as lts
-use Rattle.words.proofs.all.Reads as all-reads
-use Rattle.words.proofs.is_below.Reads as is-below-reads
 
 is-below-requires : tie.Need-is-below-requires
 is-below-requires c κs = search needs

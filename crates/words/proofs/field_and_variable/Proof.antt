@@ -3,10 +3,6 @@ use Rattle.words.proofs.Words.{same, all-are}
 use borrow.Author.Needs.{needs}
 use Rattle.words.proofs.field_and_variable.Statement.{statement}
 use Rattle.words.proofs.field_and_variable.Tie as tie
-use Rattle.words.proofs.field_and_variable.Reads as reads
-use Rattle.words.proofs.field_and_variable.Lts as lts
-use Rattle.words.proofs.all.Reads as all-reads
-use Rattle.words.proofs.is_below.Reads as is-below-reads
 
 is-below-requires : tie.Need-is-below-requires
 is-below-requires c κs = search needs

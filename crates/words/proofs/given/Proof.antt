@@ -1,8 +1,6 @@
 use borrow.Author.Needs.{needs}
 use Rattle.words.proofs.given.Statement.{statement}
 use Rattle.words.proofs.given.Tie as tie
-use Rattle.words.proofs.given.Reads as reads
-use Rattle.words.proofs.given.Lts as lts
 
 returns : tie.Need-returns
 returns c = rw (c .if1 .taken)

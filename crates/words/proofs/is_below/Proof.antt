@@ -3,8 +3,6 @@ use Rattle.cells.proofs.Signed.{address-fits}
 use Rattle.words.proofs.Words.{below-none, below-some}
 use Rattle.words.proofs.is_below.Statement.{statement}
 use Rattle.words.proofs.is_below.Tie as tie
-use Rattle.words.proofs.is_below.Reads as reads
-use Rattle.words.proofs.is_below.Lts as lts
 
 returns : tie.Need-returns
 returns c = below-none _ (c .before .args .x) (simp (toZ-ofZ (c .before .fits .x)) at (c .if1 .taken))

@@ -4,9 +4,6 @@ use mathlib.Core.Path.{_∙_}
 use borrow.Author.Needs.{needs}
 use Rattle.words.proofs.is_nought.Statement.{statement}
 use Rattle.words.proofs.is_nought.Tie as tie
-use Rattle.words.proofs.is_nought.Reads as reads
-use Rattle.words.proofs.is_nought.Lts as lts
-use Rattle.words.proofs.is_below.Reads as is-below-reads
 
 is-below-requires : tie.Need-is-below-requires
 is-below-requires c κs = search needs

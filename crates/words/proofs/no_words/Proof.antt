@@ -3,10 +3,6 @@ use Rattle.words.proofs.Words.{same, all-are}
 use borrow.Author.Needs.{needs}
 use Rattle.words.proofs.no_words.Statement.{statement}
 use Rattle.words.proofs.no_words.Tie as tie
-use Rattle.words.proofs.no_words.Reads as reads
-use Rattle.words.proofs.no_words.Lts as lts
-use Rattle.words.proofs.all.Reads as all-reads
-use Rattle.words.proofs.is_nought.Reads as is-nought-reads
 
 is-nought-requires : tie.Need-is-nought-requires
 is-nought-requires c κs = search needs

@@ -3,11 +3,6 @@ use Rattle.words.proofs.Words.{same, all-are}
 use borrow.Author.Needs.{needs}
 use Rattle.words.proofs.one_variable.Statement.{statement}
 use Rattle.words.proofs.one_variable.Tie as tie
-use Rattle.words.proofs.one_variable.Reads as reads
-use Rattle.words.proofs.one_variable.Lts as lts
-use Rattle.words.proofs.all.Reads as all-reads
-use Rattle.words.proofs.is_below.Reads as is-below-reads
-use Rattle.words.proofs.is_nought.Reads as is-nought-reads
 
 is-below-requires : tie.Need-is-below-requires
 is-below-requires c κs = search needs

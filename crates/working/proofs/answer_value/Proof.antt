@@ -3,9 +3,6 @@ use Rattle.working.specs.Working.{valued}
 use borrow.Author.Needs.{needs}
 use Rattle.working.proofs.answer_value.Statement.{statement}
 use Rattle.working.proofs.answer_value.Tie as tie
-use Rattle.working.proofs.answer_value.Reads as reads
-use Rattle.working.proofs.answer_value.Lts as lts
-use Rattle.cells.proofs.value_of.Reads as value-of-reads
 
 enum-told : tie.Need-enum-told
 enum-told c = search needs

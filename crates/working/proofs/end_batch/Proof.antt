@@ -6,9 +6,6 @@ use Rattle.working.proofs.Loop.{end-few, end-as}
 use borrow.Author.Needs.{needs}
 use Rattle.working.proofs.end_batch.Statement.{statement}
 use Rattle.working.proofs.end_batch.Tie as tie
-use Rattle.working.proofs.end_batch.Reads as reads
-use Rattle.working.proofs.end_batch.Lts as lts
-use Rattle.settle.proofs.settle.Reads as settle-reads
 
 cast-cap : tie.Need-cast-cap
 cast-cap c = search needs

@@ -4,9 +4,6 @@ use mir.Val.{toZ, ofZ}
 use borrow.Author.Needs.{needs}
 use Rattle.working.proofs.left.Statement.{statement}
 use Rattle.working.proofs.left.Tie as tie
-use Rattle.working.proofs.left.Reads as reads
-use Rattle.working.proofs.left.Lts as lts
-use Rattle.working.proofs.answer_value.Reads as answer-value-reads
 
 answer-value-requires : tie.Need-answer-value-requires
 answer-value-requires c κs = search needs

@@ -2,11 +2,6 @@ use mathlib.Core.Path.{_∙_}
 use Rattle.working.proofs.Loop.{runnable-at, endable-after, batched-after}
 use Rattle.working.proofs.run_batch.Statement.{statement}
 use Rattle.working.proofs.run_batch.Tie as tie
-use Rattle.working.proofs.run_batch.Reads as reads
-use Rattle.working.proofs.run_batch.Lts as lts
-use Rattle.working.proofs.end_batch.Reads as end-batch-reads
-use Rattle.working.proofs.start.Reads as start-reads
-use Rattle.working.proofs.work_calls.Reads as work-calls-reads
 
 start-requires : tie.Need-start-requires
 start-requires c κs = tt

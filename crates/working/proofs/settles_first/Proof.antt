@@ -3,8 +3,6 @@ use Rattle.working.proofs.Steps.{settles-as}
 use borrow.Author.Needs.{needs}
 use Rattle.working.proofs.settles_first.Statement.{statement}
 use Rattle.working.proofs.settles_first.Tie as tie
-use Rattle.working.proofs.settles_first.Reads as reads
-use Rattle.working.proofs.settles_first.Lts as lts
 
 add-full : tie.Need-add-full
 add-full c = search needs

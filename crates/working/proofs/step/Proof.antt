@@ -5,14 +5,6 @@ use Rattle.settle.proofs.Settling.{settleable}
 use borrow.Author.Needs.{needs}
 use Rattle.working.proofs.step.Statement.{statement}
 use Rattle.working.proofs.step.Tie as tie
-use Rattle.working.proofs.step.Reads as reads
-use Rattle.working.proofs.step.Lts as lts
-use Rattle.calls.proofs.act.Reads as act-reads
-use Rattle.calls.proofs.check.Reads as check-reads
-use Rattle.calls.proofs.need.Reads as need-reads
-use Rattle.working.proofs.left.Reads as left-reads
-use Rattle.working.proofs.settles_first.Reads as settles-first-reads
-use Rattle.settle.proofs.settle_if.Reads as settle-if-reads
 
 check-requires : tie.Need-check-requires
 check-requires c κs = let W = c .before .before .before .before .before .before .before .before .before .pre in reaches _ (W .fits) (W .standing)

@@ -3,10 +3,6 @@ use Rattle.working.proofs.Steps.{same-call, no-call, workable-as, answe
 use borrow.Author.Needs.{needs}
 use Rattle.working.proofs.work_call.Statement.{statement}
 use Rattle.working.proofs.work_call.Tie as tie
-use Rattle.working.proofs.work_call.Reads as reads
-use Rattle.working.proofs.work_call.Lts as lts
-use Rattle.words.proofs.call_at.Reads as call-at-reads
-use Rattle.working.proofs.step.Reads as step-reads
 
 call-at-requires : tie.Need-call-at-requires
 call-at-requires c κs = search needs

@@ -6,9 +6,6 @@ use Rattle.rules.specs.Head.{sizesOf}
 use Rattle.working.proofs.Loop.{Going, long-of, begun, now-at, small-i, answers-same, turnable, again, finish}
 use Rattle.working.proofs.work_calls.Statement.{statement}
 use Rattle.working.proofs.work_calls.Tie as tie
-use Rattle.working.proofs.work_calls.Reads as reads
-use Rattle.working.proofs.work_calls.Lts as lts
-use Rattle.working.proofs.work_turn.Reads as work-turn-reads
 
 abbrev Inv-loop : tie.InvT-loop
 Inv-loop calls kinds₀ values₀ variables₀ zct₀ mrt₀ counts₀ log₀ work₀ answers₀ head state₀ i₀ kinds values variables zct mrt counts log work answers state i =

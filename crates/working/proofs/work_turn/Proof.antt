@@ -10,10 +10,6 @@ use Rattle.working.proofs.Steps.{turn-call, turn-long, two-set, two-lon
 use borrow.Author.Needs.{needs}
 use Rattle.working.proofs.work_turn.Statement.{statement}
 use Rattle.working.proofs.work_turn.Tie as tie
-use Rattle.working.proofs.work_turn.Reads as reads
-use Rattle.working.proofs.work_turn.Lts as lts
-use Rattle.cells.proofs.value_of.Reads as value-of-reads
-use Rattle.working.proofs.work_call.Reads as work-call-reads
 
 mul-p : tie.Need-mul-p
 mul-p c = search needs
