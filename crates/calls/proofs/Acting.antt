@@ -24,9 +24,9 @@ use Rattle.cells.specs.Log.{transaction}
 use Rattle.cells.specs.Free.{Taken}
 use Rattle.cells.proofs.Storing.{map-set, inside-more, cell-lengths, read-inside, stored-at}
 use Rattle.calls.specs.declared.Acted.{Acted}
-use Rattle.calls.specs.Seen.{Held, Shown}
+use Rattle.before.specs.Seen.{Held, Shown}
 use Rattle.calls.specs.Doing.{Did, Plain, Wrote, Writable}
-use Rattle.calls.proofs.Seeing.{held-is, held-some, held-none, held-test, at-some}
+use Rattle.before.proofs.Seeing.{held-is, held-some, held-none, held-test, at-some}
 
 -- ---- a variable
 

@@ -22,7 +22,7 @@ use Rattle.rules.proofs.Calls.{two-11, Fits}
 use Rattle.cells.proofs.Storing.{cell-lengths}
 use Rattle.cells.proofs.Logging.{logged-same}
 use Rattle.calls.specs.declared.Acted.{Acted}
-use Rattle.calls.specs.Seen.{Held, Shown, Reach, Named, needs}
+use Rattle.before.specs.Seen.{Held, Shown, Reach, Named, needs}
 use Rattle.calls.specs.Doing.{acted, Did, Plain, Wrote, Writable, Linkable, Takeable, Able}
 use Rattle.calls.proofs.Acting.{holder}
 

@@ -15,7 +15,7 @@ use Rattle.rules.specs.Call.{var, at, isHeld, want, check}
 use Rattle.rules.specs.Step.{Stepped, done, doNew, doCall}
 use Rattle.rules.specs.Rows.{Inside, Logged, Whole}
 use Rattle.calls.specs.declared.Acted.{Acted}
-use Rattle.calls.specs.Seen.{Shown, Named, needs}
+use Rattle.before.specs.Seen.{Shown, Named, needs}
 
 -- a call after its settle, if there was one; a settle call's own settle and its value are the caller's
 unfoldable pub acted : Sizes → Call → Heap → Stepped

@@ -1,3 +1,2 @@
 -- the definitions that calls' contracts cite
-pub mod Seen
 pub mod Doing

@@ -16,7 +16,7 @@ use Rattle.rules.specs.Head.{Sizes}
 use Rattle.rules.specs.Settle.{Shape, Heap}
 use Rattle.rules.specs.Call.{answer, var, check, logs}
 use Rattle.rules.specs.Step.{Stepped, done, refused, settledIf, full, noneFree, doNew, doCall, doSettle, takeCell, room, run, step}
-use Rattle.calls.specs.Seen.{needs, Shown, Reaches}
+use Rattle.before.specs.Seen.{needs, Shown, Reaches}
 use Rattle.calls.specs.Doing.{acted, Did, Able}
 use Rattle.rules.specs.declared.Used.{Used}
 use Rattle.rules.specs.Rows.{Whole}

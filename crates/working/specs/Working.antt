@@ -21,7 +21,7 @@ use Rattle.rules.proofs.Invariant.{Inv}
 use Rattle.rules.proofs.Fine.{Fine}
 use Rattle.rules.proofs.Calls.{Fits}
 use Rattle.words.specs.Words.{callAt}
-use Rattle.calls.specs.Seen.{needs}
+use Rattle.before.specs.Seen.{needs}
 use Rattle.calls.specs.declared.Acted.{Acted}
 use Rattle.settle.specs.declared.Room.{Room}
 use Rattle.working.specs.declared.State.{State}

@@ -1,0 +1,41 @@
+use Rattle.rules.specs.Call.{isCell}
+use borrow.Author.Needs.{needs}
+use Rattle.before.proofs.is_cell.Statement.{statement}
+use Rattle.before.proofs.is_cell.Tie as tie
+
+enum-told : tie.Need-enum-told
+enum-told c = search needs
+
+enum-told-2 : tie.Need-enum-told-2
+enum-told-2 c = search needs
+
+enum-told-3 : tie.Need-enum-told-3
+enum-told-3 c = search needs
+
+enum-told-4 : tie.Need-enum-told-4
+enum-told-4 c = search needs
+
+returns : tie.Need-returns
+unfolding isCell
+returns c =
+    rw (c .enum-told .given .1)
+
+returns-2 : tie.Need-returns-2
+unfolding isCell
+returns-2 c =
+    rw (c .enum-told2 .given .1)
+
+returns-3 : tie.Need-returns-3
+unfolding isCell
+returns-3 c =
+    rw (c .enum-told3 .given .1)
+
+returns-4 : tie.Need-returns-4
+unfolding isCell
+returns-4 c =
+    rw (c .enum-told4 .given .1)
+
+pub is-cell-spec : {M : Type 1} → statement M
+is-cell-spec =
+    tie.close
+    (tie.spec enum-told enum-told-2 enum-told-3 enum-told-4 returns returns-2 returns-3 returns-4)
