@@ -72,8 +72,9 @@ lower-to-requires-2 : tie.Need-lower-to-requires-2
 lower-to-requires-2 c κs = let y = c .before .before .before .before .before .before .before .before .before .before .before .before .before .before .before .before .before in
     let x = y .before .before .before in
     let R = x .before .before .before .before .before .before .before .before .before .pre .0 .rows in
+    let X = inside-more (x .field-at .result) (R .bounds .most) (read-inside (R .cells) (x .field-at .result) _ (x .field-at .ensures)) in
     let Y = inside-more (y .field-at2 .result) (R .bounds .most) (read-inside (R .cells) (y .field-at2 .result) _ (y .field-at2 .ensures)) in
-    Y
+    search needs
 
 same-length : tie.Need-same-length
 same-length c = c .before .before .before .before .kinds .given

@@ -1,5 +1,6 @@
 -- `settle::settle` meets its contract: replay, clear, mark, reclaim, clear. Assumes nothing.
 use mathlib.Core.Path.{_∙_}
+use borrow.Author.Needs.{needs}
 use Rattle.settle.proofs.Replaying.{replayable}
 use Rattle.settle.proofs.Settling.{reclaimable-by, settled-by}
 use Rattle.settle.proofs.settle.Statement.{statement}
@@ -37,10 +38,10 @@ same-length-5 : tie.Need-same-length-5
 same-length-5 c = c .before .before .before .before .before .counts2 .given ∙ c .before .before .before .before .before .before .before .before .before .before .before .before .before .before .before .before .before .before .before .before .before .before .before .before .before .before .before .before .before .counts .given
 
 same-length-6 : tie.Need-same-length-6
-same-length-6 c = c .before .before .before .before .before .before .before .before .before .before .before .before .before .before .before .before .before .before .before .before .before .before .before .before .before .log .given
+same-length-6 c = search needs
 
 same-length-7 : tie.Need-same-length-7
-same-length-7 c = c .before .work2 .given ∙ c .before .before .before .before .before .before .before .before .before .before .before .before .before .before .before .before .before .before .before .before .before .work .given
+same-length-7 c = search needs
 
 returns : tie.Need-returns
 returns c = settled-by (c .before .before .before .before .before .before .before .before .before .before .before .before .before .before .before .before .before .before .before .before .before .before .before .before .before .before .before .before .before .before .before .before .before .before .replay .ensures) (c .before .before .before .before .before .before .before .before .before .before .before .before .before .before .before .before .before .before .before .before .before .before .mark-held .ensures) (c .before .before .before .before .before .before .before .before .before .before .before .before .before .reclaim .ensures) (c .before .before .before .before .before .before .before .before .before .before .before .before .before .before .before .before .before .before .before .before .before .before .before .before .before .before .clear .ensures) (c .before .before .clear2 .ensures)

@@ -1,4 +1,5 @@
 -- `tables::enter` meets its contract. Assumes nothing.
+use native.Mathlib.Omega.{arith}
 use borrow.Author.Needs.{needs}
 use Rattle.tables.proofs.enter.Statement.{statement}
 use Rattle.tables.proofs.enter.Tie as tie
@@ -31,7 +32,7 @@ returns c = let s = start (c .before) in
 put-at-requires : tie.Need-put-at-requires
 put-at-requires c κs = let s = start (c .before .before) in
     let f = c .before .before .before .before .find in
-    (s .pre .0 .padded, (place-fits (s .pre .0) (s .args .a) (f .result) (f .ensures), enter-room (s .pre .0) (s .args .a) (f .result) (f .ensures) (s .pre .1) (absent (c .before))))
+    (s .pre .0 .padded, (omega (arith, place-fits (s .pre .0) (s .args .a) (f .result) (f .ensures)), enter-room (s .pre .0) (s .args .a) (f .result) (f .ensures) (s .pre .1) (absent (c .before))))
 
 same-length-2 : tie.Need-same-length-2
 same-length-2 c = search needs
