@@ -17,9 +17,9 @@ use Rattle.rules.specs.Rows.{Ready, Rows, Logged, Whole}
 use Rattle.rules.proofs.Step.{settledBy-log, settledBy-variables}
 use Rattle.cells.specs.Marks.{Marks}
 use Rattle.cells.proofs.Logging.{logged-none}
-use Rattle.settle.specs.declared.Reclaimed.{Reclaimed}
+use Rattle.reclaim.specs.declared.Reclaimed.{Reclaimed}
 use Rattle.settle.specs.declared.Room.{Room}
-use Rattle.settle.specs.Reclaiming.{Reclaimable, Done}
+use Rattle.reclaim.specs.Reclaiming.{Reclaimable, Done}
 use Rattle.settle.specs.Settling.{Settleable, Settled, RoomMade}
 
 -- ---- a settle

@@ -1,4 +1,3 @@
 -- what settle's contracts cite beside rules
 pub mod Replaying
-pub mod Reclaiming
 pub mod Settling

@@ -12,7 +12,7 @@ use Rattle.rules.specs.Field.{variableOf}
 use Rattle.rules.specs.Settle.{Heap, settledBy}
 use Rattle.rules.specs.Step.{settledIf}
 use Rattle.rules.specs.Rows.{Whole}
-use Rattle.settle.specs.declared.Reclaimed.{Reclaimed}
+use Rattle.reclaim.specs.declared.Reclaimed.{Reclaimed}
 use Rattle.settle.specs.declared.Room.{Room}
 
 -- all rows are some heap, and a row vs lent is some holds, which are counted: the heap's own variables or others

@@ -27,7 +27,7 @@ use Rattle.rules.proofs.Whole.{rows-all, head-is}
 use Rattle.cells.proofs.Storing.{cell-lengths}
 use Rattle.words.specs.Words.{callAt}
 use Rattle.words.proofs.Listing.{listed}
-use Rattle.settle.specs.declared.Reclaimed.{Reclaimed}
+use Rattle.reclaim.specs.declared.Reclaimed.{Reclaimed}
 use Rattle.settle.specs.Settling.{Settled}
 use Rattle.working.specs.declared.State.{State}
 use Rattle.working.specs.Working.{Standing, Turnable, Turned, Runnable, Ran, Endable, Finished, Batched}

@@ -29,9 +29,9 @@ use Rattle.tables.proofs.Places.{has-place, has-at}
 use Rattle.tables.proofs.Single.{all-at, is-padded}
 use Rattle.cells.specs.Marks.{Marks}
 use Rattle.cells.proofs.Storing.{cell-lengths}
-use Rattle.settle.specs.declared.Turn.{Turn}
-use Rattle.settle.specs.declared.Reclaimed.{Reclaimed}
-use Rattle.settle.specs.Reclaiming.{lowTo, Heaped, Freed, Scan, Unheld, Done}
+use Rattle.reclaim.specs.declared.Turn.{Turn}
+use Rattle.reclaim.specs.declared.Reclaimed.{Reclaimed}
+use Rattle.reclaim.specs.Reclaiming.{lowTo, Heaped, Freed, Scan, Unheld, Done}
 
 -- ---- turns
 

@@ -2,10 +2,10 @@
 use native.Mathlib.Omega.{arith}
 use Rattle.rules.specs.Rules.{replay}
 use Rattle.rules.specs.Settle.{drops}
-use Rattle.settle.proofs.Freeing.{cell-inside, let-go}
+use Rattle.reclaim.proofs.Freeing.{cell-inside, let-go}
 use borrow.Author.Needs.{needs}
-use Rattle.settle.proofs.let_go.Statement.{statement}
-use Rattle.settle.proofs.let_go.Tie as tie
+use Rattle.reclaim.proofs.let_go.Statement.{statement}
+use Rattle.reclaim.proofs.let_go.Tie as tie
 
 enum-told : tie.Need-enum-told
 enum-told c = search needs

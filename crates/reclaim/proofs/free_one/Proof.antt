@@ -2,10 +2,10 @@
 use native.Mathlib.Omega.{arith}
 use Rattle.tables.proofs.Steps.{tabled}
 use Rattle.cells.proofs.Storing.{inside-more, read-inside}
-use Rattle.settle.proofs.Freeing.{sized, freed-as}
+use Rattle.reclaim.proofs.Freeing.{sized, freed-as}
 use borrow.Author.Needs.{needs}
-use Rattle.settle.proofs.free_one.Statement.{statement}
-use Rattle.settle.proofs.free_one.Tie as tie
+use Rattle.reclaim.proofs.free_one.Statement.{statement}
+use Rattle.reclaim.proofs.free_one.Tie as tie
 
 mul-w : tie.Need-mul-w
 mul-w c = let s = c .before .before .before .before in

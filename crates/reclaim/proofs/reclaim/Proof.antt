@@ -8,9 +8,9 @@ use lib.ListN.{length}
 use Rattle.rules.specs.Settle.{Heap}
 use Rattle.rules.specs.Rows.{Rows}
 use Rattle.cells.specs.Marks.{Marks}
-use Rattle.settle.proofs.Reclaiming.{Going, going-first, going-next, scan, done-early, done-late, heaped, Lengths, lengths}
-use Rattle.settle.proofs.reclaim.Statement.{statement}
-use Rattle.settle.proofs.reclaim.Tie as tie
+use Rattle.reclaim.proofs.Reclaiming.{Going, going-first, going-next, scan, done-early, done-late, heaped, Lengths, lengths}
+use Rattle.reclaim.proofs.reclaim.Statement.{statement}
+use Rattle.reclaim.proofs.reclaim.Tie as tie
 
 abbrev Inv-loop : tie.InvT-loop
 Inv-loop kinds₀ values₀ zct₀ mrt₀ counts₀ work first cap most at₀ k₀ kinds values zct mrt counts at k =

@@ -5,9 +5,9 @@ use native.Mathlib.Omega.{arith}
 use Prim.Native.Nat.{ℕ, _≤_, _<_, _-_}
 use mathlib.Core.Path.{_≡_}
 use lib.ListN.{getD}
-use Rattle.settle.proofs.Reclaiming.{scan-from}
-use Rattle.settle.proofs.unheld.Statement.{statement}
-use Rattle.settle.proofs.unheld.Tie as tie
+use Rattle.reclaim.proofs.Reclaiming.{scan-from}
+use Rattle.reclaim.proofs.unheld.Statement.{statement}
+use Rattle.reclaim.proofs.unheld.Tie as tie
 
 abbrev Inv-loop : tie.InvT-loop
 Inv-loop zct used work low p₀ p = (p ≤ used) × ((i : ℕ) → i < p → getD work (getD zct i 0) 0 ≡ 1)

@@ -14,8 +14,8 @@ use Rattle.rules.specs.Table.{Ascending}
 use Rattle.rules.specs.Settle.{Heap, field, freeCell, reclaim}
 use Rattle.rules.specs.Rows.{Rows}
 use Rattle.cells.specs.Marks.{Marks}
-use Rattle.settle.specs.declared.Turn.{Turn}
-use Rattle.settle.specs.declared.Reclaimed.{Reclaimed}
+use Rattle.reclaim.specs.declared.Turn.{Turn}
+use Rattle.reclaim.specs.declared.Reclaimed.{Reclaimed}
 
 -- the smaller of low and the cell that a field names
 abbrev pub lowTo : ℕ → Field → ℕ

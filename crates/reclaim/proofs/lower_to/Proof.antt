@@ -1,10 +1,10 @@
 -- `settle::lower_to` meets its contract. Assumes nothing.
 use native.Mathlib.Omega.{arith}
 use borrow.Author.Tests.{lt-ltb, le-ltb}
-use Rattle.settle.proofs.Freeing.{cell-inside}
+use Rattle.reclaim.proofs.Freeing.{cell-inside}
 use borrow.Author.Needs.{needs}
-use Rattle.settle.proofs.lower_to.Statement.{statement}
-use Rattle.settle.proofs.lower_to.Tie as tie
+use Rattle.reclaim.proofs.lower_to.Statement.{statement}
+use Rattle.reclaim.proofs.lower_to.Tie as tie
 
 enum-told : tie.Need-enum-told
 enum-told c = search needs

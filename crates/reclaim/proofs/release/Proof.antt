@@ -3,9 +3,9 @@ use mathlib.Core.Path.{sym, _∙_}
 use Rattle.rules.proofs.Reclaim.{replay-append}
 use Rattle.tables.proofs.Single.{is-padded}
 use Rattle.tables.proofs.Steps.{left, tabled}
-use Rattle.settle.proofs.Freeing.{inside-as}
-use Rattle.settle.proofs.release.Statement.{statement}
-use Rattle.settle.proofs.release.Tie as tie
+use Rattle.reclaim.proofs.Freeing.{inside-as}
+use Rattle.reclaim.proofs.release.Statement.{statement}
+use Rattle.reclaim.proofs.release.Tie as tie
 
 cut-at-requires : tie.Need-cut-at-requires
 cut-at-requires c κs = let s = c .before .before .before .before in

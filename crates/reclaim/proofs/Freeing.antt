@@ -16,7 +16,7 @@ use Rattle.rules.specs.Rows.{Inside, Ready, Cells, Rows}
 use Rattle.rules.proofs.Unique.{is-take}
 use Rattle.tables.proofs.Single.{all-at, is-padded}
 use Rattle.cells.proofs.Storing.{inside-more, cell-lengths, read}
-use Rattle.settle.specs.Reclaiming.{lowTo, Freed}
+use Rattle.reclaim.specs.Reclaiming.{lowTo, Freed}
 
 pub inside-as : {n m : ℕ} (f : Field) → n ≡ m → Inside n f → Inside m f
 inside-as f e I = inside-more f (omega arith) I
