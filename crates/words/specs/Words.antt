@@ -16,6 +16,7 @@ abbrev pub decodedAs : Decoded → Option Call
 decodedAs (Is c) = some c
 decodedAs Bad = none
 
+-- is there a call?
 abbrev pub isSome : Option Call → Bool
 isSome none = false
 isSome (some c) = true
