@@ -91,7 +91,7 @@ module _ (h : Head) (ks : List ℕ) (vs xs : List ℤ) (zs ms cs ls work : List 
               zct-row = s .tables .zct-sound .table;
               mrt-row = s .tables .mrt-sound .table;
             };
-        named = variables-again (h .n) ks xs (s .cells .variables);
+        named = variables-again (h .sizes .n) ks xs (s .cells .variables);
         work-long = g .for-work;
       }
 
@@ -116,7 +116,7 @@ module _ (h : Head) (ks : List ℕ) (vs xs : List ℤ) (zs ms cs ls work : List 
   unfolding auditOf
   outside d = rw (false-sized h (lent ks vs xs zs ms cs ls work) d)
 
-  module _ (left : List ℕ) (z : Sized h (lent ks vs xs zs ms cs ls work)) (e : left ≡ replicate (h .n) 0) where
+  module _ (left : List ℕ) (z : Sized h (lent ks vs xs zs ms cs ls work)) (e : left ≡ replicate (h .sizes .n) 0) where
     pub said-yes : Sound h (lent ks vs xs zs ms cs ls work) → leaves (outcome 0 h 0) (lent ks vs xs zs ms cs ls left) ≡ auditOf h (lent ks vs xs zs ms cs ls work)
     said-yes s = rw e (sym (audit-0 h (lent ks vs xs zs ms cs ls work) z s))
 

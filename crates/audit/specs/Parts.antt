@@ -42,18 +42,18 @@ Named xs = map variableOf (map heldOf xs) ≡ xs
 
 -- what is found out without the work row, and what with it
 pub record RowsSound (h : Head) (ks : List ℕ) (vs xs : List ℤ) (zs ms cs ls : List ℕ) : Type 0 where
-  pub cells : CellsSound (h .n) ks vs xs
-  pub tables : TablesSound (h .n) ks zs (h .zct) ms cs (h .mrt) (h .cap)
+  pub cells : CellsSound (h .sizes .n) ks vs xs
+  pub tables : TablesSound (h .sizes .n) ks zs (h .zct) ms cs (h .mrt) (h .sizes .cap)
   pub log-zero : ZeroFrom ls 0
 
 pub record WorkSound (h : Head) (ks : List ℕ) (vs xs : List ℤ) (zs ms cs : List ℕ) : Type 0 where
-  pub free-list : FreeList (h .n) ks vs (h .free)
-  pub agree : PointersSound (h .n) ks vs zs (h .zct) ms cs (h .mrt) (h .cap)
-  pub held : HeldSound (h .n) xs zs (h .zct)
+  pub free-list : FreeList (h .sizes .n) ks vs (h .free)
+  pub agree : PointersSound (h .sizes .n) ks vs zs (h .zct) ms cs (h .mrt) (h .sizes .cap)
+  pub held : HeldSound (h .sizes .n) xs zs (h .zct)
 
 -- what the work row's checks lean on: lengths, and what was found out before
 pub record WorkReady (h : Head) (ks : List ℕ) (vs xs : List ℤ) (zs ms cs work : List ℕ) : Type 0 where
-  pub cells : CellRows (h .n) ks vs
-  pub tables : TablesReady (h .n) ks zs (h .zct) ms cs (h .mrt)
+  pub cells : CellRows (h .sizes .n) ks vs
+  pub tables : TablesReady (h .sizes .n) ks zs (h .zct) ms cs (h .mrt)
   pub named : Named xs
-  pub work-long : length work ≡ h .n
+  pub work-long : length work ≡ h .sizes .n

@@ -102,12 +102,12 @@ fn pointers_sound(
     counts: &[u32],
     work: &mut [u32],
 ) -> bool
-    requires { ⌜ CellRows (head .n) (now kinds) (now values) ⌝ }
-    requires { ⌜ (length (now work) ≡ head .n) × TablesReady (head .n) (now kinds) (now zct) (head .zct) (now mrt) (now counts) (head .mrt) ⌝ }
-    ensures { λ r. ⌜ Says r (PointersSound (head .n) (now (kinds .entry)) (now (values .entry)) (now (zct .entry)) (head .zct) (now (mrt .entry)) (now (counts .entry)) (head .mrt) (head .cap)) ⌝ }
+    requires { ⌜ CellRows (head .sizes .n) (now kinds) (now values) ⌝ }
+    requires { ⌜ (length (now work) ≡ head .sizes .n) × TablesReady (head .sizes .n) (now kinds) (now zct) (head .zct) (now mrt) (now counts) (head .mrt) ⌝ }
+    ensures { λ r. ⌜ Says r (PointersSound (head .sizes .n) (now (kinds .entry)) (now (values .entry)) (now (zct .entry)) (head .zct) (now (mrt .entry)) (now (counts .entry)) (head .mrt) (head .sizes .cap)) ⌝ }
 {
     clear(work);
-    count(kinds, values, head.n, work);
+    count(kinds, values, head.sizes.n, work);
     compare(head, kinds, zct, mrt, counts, work)
 }
 
@@ -146,14 +146,14 @@ fn rows_sound(
     counts: &[u32],
     log: &[u32],
 ) -> bool
-    requires { ⌜ CellRows (head .n) (now kinds) (now values) ⌝ }
+    requires { ⌜ CellRows (head .sizes .n) (now kinds) (now values) ⌝ }
     requires { ⌜ (head .zct ≤ length (now zct)) × ((head .mrt ≤ length (now mrt)) × (head .mrt ≤ length (now counts))) ⌝ }
     ensures { λ r. ⌜ Says r (RowsSound head (now (kinds .entry)) (now (values .entry)) (now (variables .entry)) (now (zct .entry)) (now (mrt .entry)) (now (counts .entry)) (now (log .entry))) ⌝ }
 {
-    let n = head.n;
+    let n = head.sizes.n;
     let zused = head.zct;
     let mused = head.mrt;
-    let cap = head.cap;
+    let cap = head.sizes.cap;
     if !cells_sound(kinds, values, variables, n) {
         return false;
     }
@@ -180,7 +180,7 @@ fn work_sound(
     requires { ⌜ WorkReady head (now kinds) (now values) (now variables) (now zct) (now mrt) (now counts) (now work) ⌝ }
     ensures { λ r. ⌜ Says r (WorkSound head (now (kinds .entry)) (now (values .entry)) (now (variables .entry)) (now (zct .entry)) (now (mrt .entry)) (now (counts .entry))) ⌝ }
 {
-    let n = head.n;
+    let n = head.sizes.n;
     if !frees_sound(kinds, values, n, head.free, work) {
         return false;
     }
@@ -228,7 +228,7 @@ pub fn sound(
 ) -> bool
     requires { ⌜ Sized head (lent (now kinds) (now values) (now variables) (now zct) (now mrt) (now counts) (now log) (now work)) ⌝ }
     ensures { λ r. ⌜ Says r (Sound head (lent (now (kinds .entry)) (now (values .entry)) (now (variables .entry)) (now (zct .entry)) (now (mrt .entry)) (now (counts .entry)) (now (log .entry)) (now (work .entry)))) ⌝ }
-    ensures { λ _. ⌜ now (work .exit) ≡ replicate (head .n) 0 ⌝ }
+    ensures { λ _. ⌜ now (work .exit) ≡ replicate (head .sizes .n) 0 ⌝ }
 {
     let yes = parts_sound(head, kinds, values, variables, zct, mrt, counts, log, work);
     clear(work);
@@ -252,11 +252,11 @@ pub fn sized(
     if !head.within() {
         return false;
     }
-    let n = head.n;
+    let n = head.sizes.n;
     if kinds != 2 * n || values != 2 * n {
         return false;
     }
-    if variables != head.m || log != 2 * head.l {
+    if variables != head.sizes.m || log != 2 * head.sizes.l {
         return false;
     }
     if zct != n || mrt != n || counts != n || work != n {

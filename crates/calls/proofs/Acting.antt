@@ -12,7 +12,7 @@ use lib.ListN.{length, getD, set}
 use Rattle.rules.specs.declared.Field.{Field}
 use Rattle.rules.specs.declared.Field.the-variants.{Nothing, Figure, Cell, Free}
 use Rattle.rules.specs.declared.Used.{Used}
-use Rattle.rules.specs.Head.{Sizes}
+use Rattle.rules.specs.declared.Sizes.{Sizes}
 use Rattle.rules.specs.Field.{addressOf, variableOf, fieldOf, kindOf, valueOf}
 use Rattle.rules.specs.Rules.{Transaction}
 use Rattle.rules.specs.Settle.{Shape, Heap, place, field, drops}

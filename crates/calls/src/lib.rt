@@ -7,7 +7,7 @@ ghost use Prim.Native.Nat.{ℕ, _<_, _≤_};
 ghost use lib.ListN.{length, getD, set};
 ghost use lib.IntN.{pos};
 ghost use Rattle.rules.specs.declared.Used.{Used};
-ghost use Rattle.rules.specs.Head.{Sizes};
+ghost use Rattle.rules.specs.declared.Sizes.{Sizes};
 ghost use Rattle.rules.specs.Rules.{Transaction};
 ghost use Rattle.rules.specs.Settle.{Shape, Heap, drops};
 ghost use Rattle.rules.specs.Call.{var, at, makes, write, toCell, target, figureOf, sameCell};

@@ -2,6 +2,7 @@
 ghost use Prim.Native.Nat.{_≤_, _<_};
 ghost use lib.ListN.{length};
 use rules::Head;
+use rules::Sizes;
 
 // What goes from line to line: the head, how much of the calls and of the answers is used, and the eight rows with
 // their lengths.
@@ -28,7 +29,7 @@ pub struct Numeral {
 }
 
 pub fn start() -> State {
-    let head = Head::fresh(0, 0, 0, 0);
+    let head = Head::fresh(Sizes::plain(0, 0, 0, 0));
     let sizes = [0usize; 8];
     let kinds = [0u8; 130];
     let signed = [0i32; 130];
@@ -185,10 +186,7 @@ pub fn head_line(line: &[u8], mut s: State) -> State {
     let mut w = [0usize; 7];
     sizes(line, 1, &mut w);
     let head = Head {
-        n: w[0],
-        m: w[1],
-        l: w[2],
-        cap: w[3],
+        sizes: Sizes::plain(w[0], w[1], w[2], w[3]),
         free: w[4],
         zct: w[5],
         mrt: w[6],

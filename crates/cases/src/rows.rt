@@ -132,21 +132,9 @@ fn enter(
     calls: &[i32],
     answers: &mut [i32],
 ) -> Outcome {
+    let sizes = h.sizes;
     match which {
-        b'F' => heap::fresh(
-            h.n,
-            h.m,
-            h.l,
-            h.cap,
-            kinds,
-            values,
-            variables,
-            zct,
-            mrt,
-            counts,
-            log,
-            work,
-        ),
+        b'F' => heap::fresh(sizes, kinds, values, variables, zct, mrt, counts, log, work),
         b'A' => heap::audit(h, kinds, values, variables, zct, mrt, counts, log, work),
         _ => heap::batch(
             h,

@@ -12,15 +12,16 @@ fn number(n: usize) {
 // status, count and head
 pub fn outcome(o: Outcome) {
     let h = o.head;
+    let s = h.sizes;
     print::text(b"status");
     number(o.status);
     print::text(b" count");
     number(o.count);
     print::text(b" head");
-    number(h.n);
-    number(h.m);
-    number(h.l);
-    number(h.cap);
+    number(s.n);
+    number(s.m);
+    number(s.l);
+    number(s.cap);
     number(h.free);
     number(h.zct);
     number(h.mrt);

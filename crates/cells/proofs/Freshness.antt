@@ -11,7 +11,7 @@ use lib.IntN.{ℤ, negsuc}
 use Rattle.rules.specs.declared.Field.{Field}
 use Rattle.rules.specs.declared.Field.the-variants.{Nothing, Free}
 use Rattle.rules.specs.Field.{kindOf, valueOf, variableOf}
-use Rattle.rules.specs.Head.{Sizes}
+use Rattle.rules.specs.declared.Sizes.{Sizes}
 use Rattle.rules.specs.Table.{pad}
 use Rattle.rules.specs.Step.{freeFrom, fresh}
 use Rattle.rules.specs.Rows.{lent, rowsOf}

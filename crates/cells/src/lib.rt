@@ -8,7 +8,7 @@ ghost use lib.IntN.{pos, negsuc};
 ghost use Rattle.rules.specs.declared.Field.{Field};
 ghost use Rattle.rules.specs.declared.Field.the-variants.{Nothing, Free};
 ghost use Rattle.rules.specs.Field.{addressOf, fieldOf, kindOf, valueOf, variableOf};
-ghost use Rattle.rules.specs.Head.{Sizes};
+ghost use Rattle.rules.specs.declared.Sizes.{Sizes};
 ghost use Rattle.rules.specs.Rules.{Transaction};
 ghost use Rattle.rules.specs.Settle.{store, drops};
 ghost use Rattle.rules.specs.Step.{after, freeFrom, fresh};

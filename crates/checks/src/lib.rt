@@ -230,13 +230,13 @@ pub fn compare(
     counts: &[u32],
     work: &[u32],
 ) -> bool
-    requires { ⌜ (length (now work) ≡ head .n) × TablesReady (head .n) (now kinds) (now zct) (head .zct) (now mrt) (now counts) (head .mrt) ⌝ }
-    ensures { λ r. ⌜ Says r (Agree (head .n) (now (kinds .entry)) (now (zct .entry)) (head .zct) (now (mrt .entry)) (now (counts .entry)) (head .mrt) (head .cap) (now (work .entry))) ⌝ }
+    requires { ⌜ (length (now work) ≡ head .sizes .n) × TablesReady (head .sizes .n) (now kinds) (now zct) (head .zct) (now mrt) (now counts) (head .mrt) ⌝ }
+    ensures { λ r. ⌜ Says r (Agree (head .sizes .n) (now (kinds .entry)) (now (zct .entry)) (head .zct) (now (mrt .entry)) (now (counts .entry)) (head .mrt) (head .sizes .cap) (now (work .entry))) ⌝ }
 {
     let mut z = 0;
     let mut q = 0;
     let mut a = 0;
-    while a < head.n {
+    while a < head.sizes.n {
         let w = work[a];
         if stands(zct, head.zct, z, a) {
             if w != 0 || stands(mrt, head.mrt, q, a) {
@@ -247,7 +247,7 @@ pub fn compare(
             continue;
         }
         if stands(mrt, head.mrt, q, a) {
-            if !exact(counts[q], head.cap, w) {
+            if !exact(counts[q], head.sizes.cap, w) {
                 return false;
             }
             q += 1;

@@ -11,7 +11,8 @@ use lib.ListN.{length, replicate, length-replicate}
 use Rattle.rules.specs.declared.Head.{Head}
 use Rattle.rules.specs.declared.Call.{Call}
 use Rattle.rules.specs.declared.Outcome.{Outcome}
-use Rattle.rules.specs.Head.{Limits, Says, Sizes, sizesOf, freshHead, zeroHead}
+use Rattle.rules.specs.declared.Sizes.{Sizes}
+use Rattle.rules.specs.Head.{Limits, Says, sized, freshHead, zeroHead}
 use Rattle.rules.specs.Settle.{Heap}
 use Rattle.rules.specs.Call.{callsIn}
 use Rattle.rules.specs.Step.{calls, batch, fresh}
@@ -35,13 +36,13 @@ module _ {h : Head} {r : Lent} (ws row : List ℤ) where
   pub left-1 : (Sized h r → ⊥) → leavesWith (outcome 1 h 0) r row ≡ batchOf h r ws row
   left-1 p = let d = demand-1 .refused-1 h r ws row in sym (d .left (d .when p))
 
-  pub left-2 : Sized h r → callsIn (h .m) ws ≡ none → leavesWith (outcome 2 h 0) r row ≡ batchOf h r ws row
+  pub left-2 : Sized h r → callsIn (h .sizes .m) ws ≡ none → leavesWith (outcome 2 h 0) r row ≡ batchOf h r ws row
   left-2 z e = let d = demand-1 .refused-2 h r ws row in sym (d .left (d .when (z, e)))
 
-  pub left-3 : Sized h r → (ds : List Call) → callsIn (h .m) ws ≡ some ds → length row < 2 * length ds → leavesWith (outcome 3 h 0) r row ≡ batchOf h r ws row
+  pub left-3 : Sized h r → (ds : List Call) → callsIn (h .sizes .m) ws ≡ some ds → length row < 2 * length ds → leavesWith (outcome 3 h 0) r row ≡ batchOf h r ws row
   left-3 z ds e l = let d = demand-1 .refused-3 h r ws row in sym (d .left (d .when (z, record { calls = ds; decoded = e; short = l })))
 
-  pub left-4 : Sized h r → (ds : List Call) → callsIn (h .m) ws ≡ some ds → 2 * length ds ≤ length row → (Sound h r → ⊥) → leavesWith (outcome 4 h 0) (cleared h r) row ≡ batchOf h r ws row
+  pub left-4 : Sized h r → (ds : List Call) → callsIn (h .sizes .m) ws ≡ some ds → 2 * length ds ≤ length row → (Sound h r → ⊥) → leavesWith (outcome 4 h 0) (cleared h r) row ≡ batchOf h r ws row
   left-4 z ds e l u = let d = demand-1 .refused-4 h r ws row in sym (d .left (d .when (z, record { calls = ds; decoded = e; room = l }, u)))
 
 -- the answers row has room, or has none, by half the words
@@ -53,20 +54,20 @@ short-of m ws row ds e l = let n = listed m ws ds e .long in omega arith
 
 -- ---- an accepted batch
 
-module _ {h : Head} {r : Lent} (ws row : List ℤ) (Z : Sized h r) (S : Sound h r) {ds : List Call} (e : callsIn (h .m) ws ≡ some ds) (l : 2 * length ds ≤ length row)
-    {work : List ℕ} (zeros : work ≡ replicate (h .n) 0) where
-  pub start-standing : Standing (sizesOf h) (r .kinds) (r .values) (r .variables) (r .zct) (r .mrt) (r .counts) (r .log) work (startOf h) (heapOf h r)
+module _ {h : Head} {r : Lent} (ws row : List ℤ) (Z : Sized h r) (S : Sound h r) {ds : List Call} (e : callsIn (h .sizes .m) ws ≡ some ds) (l : 2 * length ds ≤ length row)
+    {work : List ℕ} (zeros : work ≡ replicate (h .sizes .n) 0) where
+  pub start-standing : Standing (h .sizes) (r .kinds) (r .values) (r .variables) (r .zct) (r .mrt) (r .counts) (r .log) work (startOf h) (heapOf h r)
   unfolding heapOf
   start-standing =
       let I = entry-ended Z S .inv in
       record {
-        whole = whole-at Z S I work (ap length zeros ∙ length-replicate (h .n) 0);
+        whole = whole-at Z S I work (ap length zeros ∙ length-replicate (h .sizes .n) 0);
         inv = I;
         log-long = Z .lengths .for-log;
         freed = refl;
       }
 
-  pub runnable : Runnable (sizesOf h) ws (r .kinds) (r .values) (r .variables) (r .zct) (r .mrt) (r .counts) (r .log) work row (startOf h)
+  pub runnable : Runnable (h .sizes) ws (r .kinds) (r .values) (r .variables) (r .zct) (r .mrt) (r .counts) (r .log) work row (startOf h)
   runnable =
       record {
         fine = fine-of (Z .limits);
@@ -78,7 +79,7 @@ module _ {h : Head} {r : Lent} (ws row : List ℤ) (Z : Sized h r) (S : Sound h 
         none-yet = refl;
       }
 
-  pub accepted-as : {q : Lent} {bs : List ℤ} {o : Outcome} → Done (sizesOf h) ds (heapOf h r) q row bs o → leavesWith o q bs ≡ batchOf h r ws row
+  pub accepted-as : {q : Lent} {bs : List ℤ} {o : Outcome} → Done (h .sizes) ds (heapOf h r) q row bs o → leavesWith o q bs ≡ batchOf h r ws row
   unfolding accepted batch heapOf
   accepted-as D =
       let c : Callable h ws row = record { calls = ds; decoded = e; room = l } in
@@ -96,20 +97,20 @@ module _ {h : Head} {ks : List ℕ} {xs vs : List ℤ} {zs ms cs log work : List
   pub is-sized : not fits ≡ false → Sized h (lent ks xs vs zs ms cs log work)
   is-sized t = let z = sizes .yes (not-false fits t) in record { limits = z .0; lengths = z .1 }
 
-module _ {h : Head} {r : Lent} (ws row : List ℤ) (Z : Sized h r) {right : Bool} (words : Decides right (h .m) ws) where
+module _ {h : Head} {r : Lent} (ws row : List ℤ) (Z : Sized h r) {right : Bool} (words : Decides right (h .sizes .m) ws) where
   pub refused-2 : {o : Outcome} → not right ≡ true → o ≡ outcome 2 h 0 → leavesWith o r row ≡ batchOf h r ws row
   refused-2 t e = rw e (left-2 ws row Z (words .no (not-true right t)))
 
   module _ (known : not right ≡ false) where
-    all : Calls (h .m) ws
+    all : Calls (h .sizes .m) ws
     all = words .yes (not-false right known)
 
     pub refused-3 : {o : Outcome} → length row < length ws / 2 → o ≡ outcome 3 h 0 → leavesWith o r row ≡ batchOf h r ws row
-    refused-3 l e = rw e (left-3 ws row Z (all .list) (all .are) (short-of (h .m) ws row (all .list) (all .are) l))
+    refused-3 l e = rw e (left-3 ws row Z (all .list) (all .are) (short-of (h .sizes .m) ws row (all .list) (all .are) l))
 
-    module _ (long : length ws / 2 ≤ length row) {good : Bool} {work : List ℕ} (audited : Says good (Sound h r) × (work ≡ replicate (h .n) 0)) where
+    module _ (long : length ws / 2 ≤ length row) {good : Bool} {work : List ℕ} (audited : Says good (Sound h r) × (work ≡ replicate (h .sizes .n) 0)) where
       room : 2 * length (all .list) ≤ length row
-      room = room-of (h .m) ws row (all .list) (all .are) long
+      room = room-of (h .sizes .m) ws row (all .list) (all .are) long
 
       pub refused-4 : {o : Outcome} → not good ≡ true → o ≡ outcome 4 h 0 → leavesWith o (lent (r .kinds) (r .values) (r .variables) (r .zct) (r .mrt) (r .counts) (r .log) work) row ≡ batchOf h r ws row
       refused-4 t e = rw (e, audited .1) (left-4 ws row Z (all .list) (all .are) room (audited .0 .no (not-true good t)))
@@ -118,11 +119,11 @@ module _ {h : Head} {r : Lent} (ws row : List ℤ) (Z : Sized h r) {right : Bool
         is-sound : Sound h r
         is-sound = audited .0 .yes (not-false good sound)
 
-        pub runnable-by : Runnable (sizesOf h) ws (r .kinds) (r .values) (r .variables) (r .zct) (r .mrt) (r .counts) (r .log) work row (startOf h)
+        pub runnable-by : Runnable (h .sizes) ws (r .kinds) (r .values) (r .variables) (r .zct) (r .mrt) (r .counts) (r .log) work row (startOf h)
         runnable-by = runnable ws row Z is-sound (all .are) room (audited .1)
 
         pub accepted-by : {q : Lent} {bs : List ℤ} {o : Outcome}
-            → ((ds : List Call) (g : Heap) → callsIn (h .m) ws ≡ some ds → Standing (sizesOf h) (r .kinds) (r .values) (r .variables) (r .zct) (r .mrt) (r .counts) (r .log) work (startOf h) g → Done (sizesOf h) ds g q row bs o)
+            → ((ds : List Call) (g : Heap) → callsIn (h .sizes .m) ws ≡ some ds → Standing (h .sizes) (r .kinds) (r .values) (r .variables) (r .zct) (r .mrt) (r .counts) (r .log) work (startOf h) g → Done (h .sizes) ds g q row bs o)
             → leavesWith o q bs ≡ batchOf h r ws row
         accepted-by runs =
             accepted-as ws row Z is-sound (all .are) room (audited .1)
@@ -130,25 +131,25 @@ module _ {h : Head} {r : Lent} (ws row : List ℤ) (Z : Sized h r) {right : Bool
 
 -- ---- fresh
 
-module _ {n m l cap : ℕ} {r : Lent} where
-  pub fresh-no : (Sized (freshHead n m l cap) r → ⊥) → leaves (outcome 1 zeroHead 0) r ≡ freshOf n m l cap r
-  fresh-no z = sym (fresh-refused n m l cap r z)
+module _ {s : Sizes} {r : Lent} where
+  pub fresh-no : (Sized (freshHead s) r → ⊥) → leaves (outcome 1 zeroHead 0) r ≡ freshOf s r
+  fresh-no z = sym (fresh-refused s r z)
 
-  pub fresh-yes : {q : Lent} → Sized (freshHead n m l cap) r → q ≡ rowsOf (sizesOf (freshHead n m l cap)) (fresh (sizesOf (freshHead n m l cap)))
-      → leaves (outcome 0 (freshHead n m l cap) 0) q ≡ freshOf n m l cap r
-  fresh-yes z e = rw e (sym (fresh-accepted n m l cap r z))
+  pub fresh-yes : {q : Lent} → Sized (freshHead s) r → q ≡ rowsOf s (fresh s)
+      → leaves (outcome 0 (freshHead s) 0) q ≡ freshOf s r
+  fresh-yes z e = rw e (sym (fresh-accepted s r z))
 
 -- from what the check of the code says of the rows, for a head g that was made
-module _ {n m l cap : ℕ} {g : Head} (made : g ≡ freshHead n m l cap) {ks : List ℕ} {xs vs : List ℤ} {zs ms cs log work : List ℕ}
+module _ {s : Sizes} {g : Head} (made : g ≡ freshHead s) {ks : List ℕ} {xs vs : List ℤ} {zs ms cs log work : List ℕ}
     {fits : Bool} (sizes : Says fits (Limits g × Lengths g (length ks) (length xs) (length vs) (length zs) (length ms) (length cs) (length log) (length work))) where
-  pub no-fresh : {z : Head} {o : Outcome} → not fits ≡ true → z ≡ zeroHead → o ≡ outcome 1 z 0 → leaves o (lent ks xs vs zs ms cs log work) ≡ freshOf n m l cap (lent ks xs vs zs ms cs log work)
-  no-fresh t e d = rw (d, e) (fresh-no (λ z. sizes .no (not-true fits t) (rw made (z .limits, z .lengths))))
+  pub no-fresh : {p : Sizes} {z : Head} {o : Outcome} → not fits ≡ true → p ≡ sized 0 0 0 0 → z ≡ freshHead p → o ≡ outcome 1 z 0 → leaves o (lent ks xs vs zs ms cs log work) ≡ freshOf s (lent ks xs vs zs ms cs log work)
+  no-fresh t e₀ e d = rw (d, e, e₀) (fresh-no (λ z. sizes .no (not-true fits t) (rw made (z .limits, z .lengths))))
 
-  pub fresh-sized : not fits ≡ false → Sized (freshHead n m l cap) (lent ks xs vs zs ms cs log work)
+  pub fresh-sized : not fits ≡ false → Sized (freshHead s) (lent ks xs vs zs ms cs log work)
   fresh-sized t = subst (λ (k : Head). Sized k (lent ks xs vs zs ms cs log work)) made (is-sized sizes t)
 
-pub fitting : {n m l cap v k : ℕ} {g : Head} {ks : List ℕ} {xs : List ℤ} {zs ms cs work : List ℕ} {fits : Bool} → g ≡ freshHead n m l cap
-    → Says fits (Limits g × Lengths g (length ks) (length xs) v (length zs) (length ms) (length cs) k (length work)) → not fits ≡ false → Fitting n ks xs zs ms cs work
+pub fitting : {s : Sizes} {v k : ℕ} {g : Head} {ks : List ℕ} {xs : List ℤ} {zs ms cs work : List ℕ} {fits : Bool} → g ≡ freshHead s
+    → Says fits (Limits g × Lengths g (length ks) (length xs) v (length zs) (length ms) (length cs) k (length work)) → not fits ≡ false → Fitting (s .n) ks xs zs ms cs work
 fitting {fits = fits} e sizes t =
     let z = rw e at (sizes .yes (not-false fits t)) in
     let d = z .1 in
@@ -162,8 +163,8 @@ fitting {fits = fits} e sizes t =
       work-long = d .for-work;
     }
 
-module _ {n m l cap : ℕ} {ks : List ℕ} {xs vs : List ℤ} {zs ms cs log work : List ℕ} (Z : Sized (freshHead n m l cap) (lent ks xs vs zs ms cs log work)) where
-  pub made-fresh : {g : Head} {q : Lent} {o : Outcome} → g ≡ freshHead n m l cap
-      → ((s : Sizes) → s .n ≡ n → s .m ≡ length vs → 2 * s .l ≡ length log → q ≡ rowsOf s (fresh s)) → o ≡ outcome 0 g 0 → leaves o q ≡ freshOf n m l cap (lent ks xs vs zs ms cs log work)
+module _ {s : Sizes} {ks : List ℕ} {xs vs : List ℤ} {zs ms cs log work : List ℕ} (Z : Sized (freshHead s) (lent ks xs vs zs ms cs log work)) where
+  pub made-fresh : {g : Head} {q : Lent} {o : Outcome} → g ≡ freshHead s
+      → ((t : Sizes) → t .n ≡ s .n → t .m ≡ length vs → 2 * t .l ≡ length log → q ≡ rowsOf t (fresh t)) → o ≡ outcome 0 g 0 → leaves o q ≡ freshOf s (lent ks xs vs zs ms cs log work)
   made-fresh e written d =
-      rw (d, e) (fresh-yes Z (written (sizesOf (freshHead n m l cap)) refl (sym (Z .lengths .for-variables)) (sym (Z .lengths .for-log))))
+      rw (d, e) (fresh-yes Z (written s refl (sym (Z .lengths .for-variables)) (sym (Z .lengths .for-log))))

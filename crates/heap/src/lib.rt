@@ -8,15 +8,13 @@ use audit::sound;
 use cells::fresh_rows;
 use rules::Head;
 use rules::Outcome;
+use rules::Sizes;
 use words::calls_right;
 use working::run_batch;
 
-// A fresh heap of the four sizes, written into the rows: 0 and its head, or 1 and a head of zeros.
+// A fresh heap of the sizes, written into the rows: 0 and its head, or 1 and a head of zeros.
 pub fn fresh(
-    n: usize,
-    m: usize,
-    l: usize,
-    cap: usize,
+    sizes: Sizes,
     kinds: &mut [u8],
     values: &mut [i32],
     variables: &mut [i32],
@@ -28,9 +26,9 @@ pub fn fresh(
 ) -> Outcome
     ensures { λ r.
         ⌜ leaves r (lent (now (kinds .exit)) (now (values .exit)) (now (variables .exit)) (now (zct .exit)) (now (mrt .exit)) (now (counts .exit)) (now (log .exit)) (now (work .exit)))
-        ≡ freshOf n m l cap (lent (now (kinds .entry)) (now (values .entry)) (now (variables .entry)) (now (zct .entry)) (now (mrt .entry)) (now (counts .entry)) (now (log .entry)) (now (work .entry))) ⌝ }
+        ≡ freshOf sizes (lent (now (kinds .entry)) (now (values .entry)) (now (variables .entry)) (now (zct .entry)) (now (mrt .entry)) (now (counts .entry)) (now (log .entry)) (now (work .entry))) ⌝ }
 {
-    let head = Head::fresh(n, m, l, cap);
+    let head = Head::fresh(sizes);
     if !sized(
         head,
         kinds.len(),
@@ -42,9 +40,19 @@ pub fn fresh(
         log.len(),
         work.len(),
     ) {
-        return answer(1, Head::fresh(0, 0, 0, 0));
+        return answer(1, Head::fresh(Sizes::plain(0, 0, 0, 0)));
     }
-    fresh_rows(kinds, values, variables, zct, mrt, counts, log, work, n);
+    fresh_rows(
+        kinds,
+        values,
+        variables,
+        zct,
+        mrt,
+        counts,
+        log,
+        work,
+        sizes.n,
+    );
     answer(0, head)
 }
 
@@ -98,7 +106,7 @@ pub fn batch(
     ) {
         return answer(1, head);
     }
-    if !calls_right(calls, head.m) {
+    if !calls_right(calls, head.sizes.m) {
         return answer(2, head);
     }
     if answers.len() < calls.len() / 2 {

@@ -13,7 +13,7 @@ use lib.ListN.{length, getD, length-map}
 use borrow.Author.Tests.{ltb-true, ltb-false}
 use Rattle.rules.specs.declared.Field.{Field}
 use Rattle.rules.specs.declared.Field.the-variants.{Nothing, Figure, Cell, Free}
-use Rattle.rules.specs.Head.{Sizes}
+use Rattle.rules.specs.declared.Sizes.{Sizes}
 use Rattle.rules.specs.Field.{kindOf, valueOf, variableOf, addressOf}
 use Rattle.rules.specs.Table.{Entry, has, countIn, addresses, counts, pad, Ascending}
 use Rattle.rules.specs.Rules.{Tables, replay}

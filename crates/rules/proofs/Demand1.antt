@@ -12,7 +12,8 @@ use lib.IntN.{ℤ}
 use borrow.Author.Tests.{leb-true, leb-false}
 use Rattle.rules.specs.declared.Head.{Head}
 use Rattle.rules.specs.declared.Call.{Call}
-use Rattle.rules.specs.Head.{Sizes, sizesOf, freshHead, zeroHead}
+use Rattle.rules.specs.declared.Sizes.{Sizes}
+use Rattle.rules.specs.Head.{freshHead, zeroHead}
 use Rattle.rules.specs.Settle.{Heap}
 use Rattle.rules.specs.Call.{Answer, callsIn}
 use Rattle.rules.specs.Step.{step, calls, batch, fresh}
@@ -26,7 +27,7 @@ use Rattle.rules.proofs.Tests.{sized-true, sized-false, true-sized, fal
 -- the five ways of a batch
 pub data Way (h : Head) (r : Lent) (ws row : List ℤ) (o : Batched) : Type 0 where
   way-1 : (Sized h r → ⊥) → o ≡ leavesWith (outcome 1 h 0) r row → Way h r ws row o
-  way-2 : Sized h r → callsIn (h .m) ws ≡ none → o ≡ leavesWith (outcome 2 h 0) r row → Way h r ws row o
+  way-2 : Sized h r → callsIn (h .sizes .m) ws ≡ none → o ≡ leavesWith (outcome 2 h 0) r row → Way h r ws row o
   way-3 : Sized h r → TooShort h ws row → o ≡ leavesWith (outcome 3 h 0) r row → Way h r ws row o
   way-4 : Sized h r → Callable h ws row → (Sound h r → ⊥) → o ≡ leavesWith (outcome 4 h 0) (cleared h r) row → Way h r ws row o
   way-0 : Sized h r → (c : Callable h ws row) → Sound h r → o ≡ accepted h r (c .calls) row → Way h r ws row o
@@ -36,13 +37,13 @@ module _ (h : Head) (r : Lent) (ws row : List ℤ) where
   sound-way z c true e = way-0 z c (sound-true h r e) refl
   sound-way z c false e = way-4 z c (sound-false h r e) refl
 
-  answers-way : Sized h r → (cs : List Call) → callsIn (h .m) ws ≡ some cs → (q : Bool) → leb (2 * length cs) (length row) ≡ q
+  answers-way : Sized h r → (cs : List Call) → callsIn (h .sizes .m) ws ≡ some cs → (q : Bool) → leb (2 * length cs) (length row) ≡ q
       → Way h r ws row (cond q (checkSound h r cs row) (leavesWith (outcome 3 h 0) r row))
   unfolding checkSound
   answers-way z cs d true e = sound-way z (record { calls = cs; decoded = d; room = leb-true _ _ e }) (isSound h r) refl
   answers-way z cs d false e = way-3 z (record { calls = cs; decoded = d; short = leb-false _ _ e }) refl
 
-  calls-way : Sized h r → (o : Option (List Call)) → callsIn (h .m) ws ≡ o → Way h r ws row (checkCalls h r o row)
+  calls-way : Sized h r → (o : Option (List Call)) → callsIn (h .sizes .m) ws ≡ o → Way h r ws row (checkCalls h r o row)
   unfolding checkCalls checkAnswers
   calls-way z none d = way-2 z d refl
   calls-way z (some cs) d = answers-way z cs d (leb (2 * length cs) (length row)) refl
@@ -51,18 +52,18 @@ module _ (h : Head) (r : Lent) (ws row : List ℤ) where
   unfolding batchOf
   way = go (isSized h r) refl
     where
-      go : (q : Bool) → isSized h r ≡ q → Way h r ws row (cond q (checkCalls h r (callsIn (h .m) ws) row) (leavesWith (outcome 1 h 0) r row))
-      go true e = calls-way (sized-true h r e) (callsIn (h .m) ws) refl
+      go : (q : Bool) → isSized h r ≡ q → Way h r ws row (cond q (checkCalls h r (callsIn (h .sizes .m) ws) row) (leavesWith (outcome 1 h 0) r row))
+      go true e = calls-way (sized-true h r e) (callsIn (h .sizes .m) ws) refl
       go false e = way-1 (sized-false h r e) refl
 
   -- the reasons exclude one another
-  none-callable : callsIn (h .m) ws ≡ none → Callable h ws row → ⊥
+  none-callable : callsIn (h .sizes .m) ws ≡ none → Callable h ws row → ⊥
   none-callable e c = let d = c .decoded in let z : _≡_ {A = ℕ} 0 1 = cc in omega arith
 
-  none-short : callsIn (h .m) ws ≡ none → TooShort h ws row → ⊥
+  none-short : callsIn (h .sizes .m) ws ≡ none → TooShort h ws row → ⊥
   none-short e c = let d = c .decoded in let z : _≡_ {A = ℕ} 0 1 = cc in omega arith
 
-  pub same-calls : (cs ds : List Call) → callsIn (h .m) ws ≡ some cs → callsIn (h .m) ws ≡ some ds → cs ≡ ds
+  pub same-calls : (cs ds : List Call) → callsIn (h .sizes .m) ws ≡ some cs → callsIn (h .sizes .m) ws ≡ some ds → cs ≡ ds
   same-calls cs ds e f = cc
 
   short-callable : TooShort h ws row → Callable h ws row → ⊥
@@ -92,7 +93,7 @@ module _ (h : Head) (r : Lent) (ws row : List ℤ) where
   exactly-1 (way-4 z c u e) = other (leavesWith (outcome 4 h 0) (cleared h r) row) (λ n. n z) (omega arith) refl e
   exactly-1 (way-0 z c u e) = other (accepted h r (c .calls) row) (λ n. n z) (omega arith) (accepted-0 (c .calls)) e
 
-  exactly-2 : {o : Batched} → Way h r ws row o → Exactly (Sized h r × (callsIn (h .m) ws ≡ none)) 2 o (leavesWith (outcome 2 h 0) r row)
+  exactly-2 : {o : Batched} → Way h r ws row o → Exactly (Sized h r × (callsIn (h .sizes .m) ws ≡ none)) 2 o (leavesWith (outcome 2 h 0) r row)
   exactly-2 (way-1 n e) = other (leavesWith (outcome 1 h 0) r row) (λ p. n (p .0)) (omega arith) refl e
   exactly-2 (way-2 z c e) = own (z, c) refl e
   exactly-2 (way-3 z s e) = other (leavesWith (outcome 3 h 0) r row) (λ p. none-short (p .1) s) (omega arith) refl e
@@ -168,33 +169,33 @@ accepted-past : (h : Head) (r : Lent) (row : List ℤ) (cs : List Call) → 2 * 
 unfolding accepted batch
 accepted-past h r row cs k =
     let h₁ : Heap = record { shape = heapOf h r .shape; first = heapOf h r .first; tables = heapOf h r .tables; log = heapOf h r .log; freed = 0 } in
-    let e = answers-long (sizesOf h) cs h₁ in
-    rw e at (answered-past (calls (sizesOf h) cs h₁ .answers) row (rw e k))
+    let e = answers-long (h .sizes) cs h₁ in
+    rw e at (answered-past (calls (h .sizes) cs h₁ .answers) row (rw e k))
 
-work-0 : (h : Head) (r : Lent) (cs : List Call) (row : List ℤ) → accepted h r cs row .rows .work ≡ replicate (h .n) 0
+work-0 : (h : Head) (r : Lent) (cs : List Call) (row : List ℤ) → accepted h r cs row .rows .work ≡ replicate (h .sizes .n) 0
 unfolding accepted rowsOf
 work-0 h r cs row = refl
 
 -- ---- fresh and audit
 
-module _ (n m l cap : ℕ) (r : Lent) where
-  pub fresh-refused : (Sized (freshHead n m l cap) r → ⊥) → freshOf n m l cap r ≡ leaves (outcome 1 zeroHead 0) r
+module _ (s : Sizes) (r : Lent) where
+  pub fresh-refused : (Sized (freshHead s) r → ⊥) → freshOf s r ≡ leaves (outcome 1 zeroHead 0) r
   unfolding freshOf
-  fresh-refused z = rw (false-sized (freshHead n m l cap) r z)
+  fresh-refused z = rw (false-sized (freshHead s) r z)
 
-  pub fresh-accepted : Sized (freshHead n m l cap) r
-      → freshOf n m l cap r ≡ leaves (outcome 0 (freshHead n m l cap) 0) (rowsOf (sizesOf (freshHead n m l cap)) (fresh (sizesOf (freshHead n m l cap))))
+  pub fresh-accepted : Sized (freshHead s) r
+      → freshOf s r ≡ leaves (outcome 0 (freshHead s) 0) (rowsOf s (fresh s))
   unfolding freshOf
-  fresh-accepted z = rw (true-sized (freshHead n m l cap) r z)
+  fresh-accepted z = rw (true-sized (freshHead s) r z)
 
   -- accepted means the sizes are right
-  pub fresh-sized : freshOf n m l cap r .outcome .status ≡ 0 → Sized (freshHead n m l cap) r
+  pub fresh-sized : freshOf s r .outcome .status ≡ 0 → Sized (freshHead s) r
   unfolding freshOf
-  fresh-sized e = go (isSized (freshHead n m l cap) r) refl e
+  fresh-sized e = go (isSized (freshHead s) r) refl e
     where
-      go : (q : Bool) → isSized (freshHead n m l cap) r ≡ q
-          → (cond q (leaves (outcome 0 (freshHead n m l cap) 0) (rowsOf (sizesOf (freshHead n m l cap)) (fresh (sizesOf (freshHead n m l cap))))) (leaves (outcome 1 zeroHead 0) r)) .outcome .status ≡ 0
-          → Sized (freshHead n m l cap) r
+      go : (q : Bool) → isSized (freshHead s) r ≡ q
+          → (cond q (leaves (outcome 0 (freshHead s) 0) (rowsOf s (fresh s))) (leaves (outcome 1 zeroHead 0) r)) .outcome .status ≡ 0
+          → Sized (freshHead s) r
       go true d e = sized-true _ _ d
       go false d e = absurd (omega arith)
 
@@ -226,6 +227,6 @@ demand-1 =
           let t = taken h r ws row s in
           let q = same-calls h r ws row (t .callable .calls) cs (t .callable .decoded) e in
           rw (t .left, q) (accepted-past h r row cs (rw q at (t .callable .room)));
-      fresh-refuses-only-1 = λ n m l cap r. (fresh-refused n m l cap r, fresh-accepted n m l cap r);
+      fresh-refuses-only-1 = λ s r. (fresh-refused s r, fresh-accepted s r);
       audit-refuses-only-1-and-4 = λ h r. (audit-1 h r, audit-4 h r, audit-0 h r);
     }

@@ -14,7 +14,7 @@ use Rattle.rules.specs.declared.Field.{Field}
 use Rattle.rules.specs.declared.Field.the-variants.{Nothing, Figure, Cell, Free}
 use Rattle.rules.specs.declared.Call.{Call}
 use Rattle.rules.specs.declared.Call.the-variants.{New}
-use Rattle.rules.specs.Head.{Sizes, sizesOf}
+use Rattle.rules.specs.declared.Sizes.{Sizes}
 use Rattle.rules.specs.Field.{kindOf, variableOf}
 use Rattle.rules.specs.Settle.{Heap, place, field, settled}
 use Rattle.rules.specs.Call.{Answer, callOf, callsOf, callsIn, check, hold}
@@ -71,9 +71,9 @@ handed-in (c ∷ cs) (a ∷ as′) rest e = let i = handed-in cs as′ rest (ome
 
 -- ---- an accepted batch
 
-module _ {h : Head} {r : Lent} (Z : Sized h r) (S : Sound h r) (cs : List Call) (F : AllFit (sizesOf h) cs) where
+module _ {h : Head} {r : Lent} (Z : Sized h r) (S : Sound h r) (cs : List Call) (F : AllFit (h .sizes) cs) where
   s : Sizes
-  s = sizesOf h
+  s = h .sizes
 
   kinds-are : map kindOf (heapOf h r .shape .fields) ≡ r .kinds
   unfolding rowsOf
@@ -84,24 +84,24 @@ module _ {h : Head} {r : Lent} (Z : Sized h r) (S : Sound h r) (cs : List Call) 
   count-freed row =
       let a = rw kinds-are at (free-in (entry-ended Z S .inv)) in
       let b = free-in (exit-ended Z S cs F .inv) in
-      let c = facts.count-is-freed (sizesOf h) (fine-of (Z .limits)) cs (heapOf h r) (entry-ended Z S .inv) F in
+      let c = facts.count-is-freed (h .sizes) (fine-of (Z .limits)) cs (heapOf h r) (entry-ended Z S .inv) F in
       let k : Heap = record { shape = heapOf h r .shape; first = heapOf h r .first; tables = heapOf h r .tables; log = heapOf h r .log; freed = 0 } in
-      let as′ = calls (sizesOf h) cs k .answers in
-      let d = handed-in cs as′ (drop (2 * length as′) row) (answers-long (sizesOf h) cs k) in
+      let as′ = calls (h .sizes) cs k .answers in
+      let d = handed-in cs as′ (drop (2 * length as′) row) (answers-long (h .sizes) cs k) in
       omega arith
 
   -- some variable holds each ZCT cell afterwards
   all-held : (row : List ℤ) (j : ℕ) → j < accepted h r cs row .outcome .head .zct
-      → heldAmong (h .n) (accepted h r cs row .rows .variables) (getD (accepted h r cs row .rows .zct) j 0) (h .m) ≡ true
+      → heldAmong (h .sizes .n) (accepted h r cs row .rows .variables) (getD (accepted h r cs row .rows .zct) j 0) (h .sizes .m) ≡ true
   all-held row j k =
       let e = exit-sized Z S cs F row .lengths .for-variables in
-      subst (λ (v : ℕ). heldAmong (h .n) (accepted h r cs row .rows .variables) (getD (accepted h r cs row .rows .zct) j 0) v ≡ true) (e ∙ same-m row)
+      subst (λ (v : ℕ). heldAmong (h .sizes .n) (accepted h r cs row .rows .variables) (getD (accepted h r cs row .rows .zct) j 0) v ≡ true) (e ∙ same-m row)
       (subst (λ (n : ℕ). heldAmong n (accepted h r cs row .rows .variables) (getD (accepted h r cs row .rows .zct) j 0) (length (accepted h r cs row .rows .variables)) ≡ true) (same-n row) (exit-sound Z S cs F row .held j k))
     where
-      same-n : (row : List ℤ) → accepted h r cs row .outcome .head .n ≡ h .n
+      same-n : (row : List ℤ) → accepted h r cs row .outcome .head .sizes .n ≡ h .sizes .n
       same-n row = unfold accepted headOf in refl
 
-      same-m : (row : List ℤ) → accepted h r cs row .outcome .head .m ≡ h .m
+      same-m : (row : List ℤ) → accepted h r cs row .outcome .head .sizes .m ≡ h .sizes .m
       same-m row = unfold accepted headOf in refl
 
 -- ---- a batch of one new
@@ -110,14 +110,14 @@ new-calls : (m v : ℕ) → v < m → callsIn m (newWords v) ≡ some (New v ∷
 unfolding callsIn callsOf callOf
 new-calls m v k = rw (lt-ltb v m k)
 
-module _ {h : Head} {r : Lent} (Z : Sized h r) (S : Sound h r) (v : ℕ) (k : v < h .m) (row : List ℤ) (room : 2 ≤ length row) where
+module _ {h : Head} {r : Lent} (Z : Sized h r) (S : Sound h r) (v : ℕ) (k : v < h .sizes .m) (row : List ℤ) (room : 2 ≤ length row) where
   new-left : batchOf h r (newWords v) row ≡ accepted h r (New v ∷ []) row
   new-left =
-      let e = demand-1 .accepted-else h r (newWords v) row Z (record { calls = New v ∷ []; decoded = new-calls (h .m) v k; room = room }) S in
+      let e = demand-1 .accepted-else h r (newWords v) row Z (record { calls = New v ∷ []; decoded = new-calls (h .sizes .m) v k; room = room }) S in
       let t = taken h r (newWords v) row e in
-      t .left ∙ ap (λ (cs : List Call). accepted h r cs row) (same-calls h r (newWords v) row (t .callable .calls) (New v ∷ []) (t .callable .decoded) (new-calls (h .m) v k))
+      t .left ∙ ap (λ (cs : List Call). accepted h r cs row) (same-calls h r (newWords v) row (t .callable .calls) (New v ∷ []) (t .callable .decoded) (new-calls (h .sizes .m) v k))
 
-  new-status : getD (accepted h r (New v ∷ []) row .answers) 0 (negsuc 0) ≡ pos (step (sizesOf h) (New v) (heapOf h r) .answer .status)
+  new-status : getD (accepted h r (New v ∷ []) row .answers) 0 (negsuc 0) ≡ pos (step (h .sizes) (New v) (heapOf h r) .answer .status)
   unfolding accepted answered batch calls heapOf
   new-status = refl
 
@@ -125,39 +125,39 @@ module _ {h : Head} {r : Lent} (Z : Sized h r) (S : Sound h r) (v : ℕ) (k : v 
   unfolding heapOf
   first-is = refl
 
-  fourteen : (getD (batchOf h r (newWords v) row .answers) 0 (negsuc 0) ≡ pos 14 → h .free ≡ h .n) × (h .free ≡ h .n → getD (batchOf h r (newWords v) row .answers) 0 (negsuc 0) ≡ pos 14)
+  fourteen : (getD (batchOf h r (newWords v) row .answers) 0 (negsuc 0) ≡ pos 14 → h .free ≡ h .sizes .n) × (h .free ≡ h .sizes .n → getD (batchOf h r (newWords v) row .answers) 0 (negsuc 0) ≡ pos 14)
   unfolding noneFree
   fourteen =
       let ok = fine-of (Z .limits) in
       let e = ap (λ (o : Batched). getD (o .answers) 0 (negsuc 0)) new-left ∙ new-status in
-      let f = facts.fourteen-full (sizesOf h) ok v (heapOf h r) ((entry-ended Z S) .inv) in
-      let a = ap (noneFree (sizesOf h)) (facts.settled-again (sizesOf h) ok (heapOf h r) (entry-ended Z S)) in (
-        λ p. let w : step (sizesOf h) (New v) (heapOf h r) .answer .status ≡ 14 = cc in sym first-is ∙ eqb-true _ _ (sym a ∙ f .0 w),
+      let f = facts.fourteen-full (h .sizes) ok v (heapOf h r) ((entry-ended Z S) .inv) in
+      let a = ap (noneFree (h .sizes)) (facts.settled-again (h .sizes) ok (heapOf h r) (entry-ended Z S)) in (
+        λ p. let w : step (h .sizes) (New v) (heapOf h r) .answer .status ≡ 14 = cc in sym first-is ∙ eqb-true _ _ (sym a ∙ f .0 w),
         λ p. e ∙ ap pos (f .1 (a ∙ eq-eqb _ _ (first-is ∙ p))),
       )
 
-  module _ (some-free : h .free < h .n) where
+  module _ (some-free : h .free < h .sizes .n) where
     -- no settle is needed: the log is empty, and a cell is free
-    new-taken : step (sizesOf h) (New v) (heapOf h r) ≡ record { heap = takeCell v (heapOf h r); answer = record { status = 0; value = pos 0 } }
+    new-taken : step (h .sizes) (New v) (heapOf h r) ≡ record { heap = takeCell v (heapOf h r); answer = record { status = 0; value = pos 0 } }
     unfolding step check run doNew settledIf full noneFree heapOf
     new-taken =
-        let l : 1 ≤ h .l = let e = Z .limits .l-least in omega arith in
-        let n : h .free ≡ h .n → ⊥ = λ e. omega arith in
-        rw (le-ltb (h .l) 1 l, ne-eqb (h .free) (h .n) n, ne-eqb (h .free) (h .n) n)
+        let l : 1 ≤ h .sizes .l = let e = Z .limits .l-least in omega arith in
+        let n : h .free ≡ h .sizes .n → ⊥ = λ e. omega arith in
+        rw (le-ltb (h .sizes .l) 1 l, ne-eqb (h .free) (h .sizes .n) n, ne-eqb (h .free) (h .sizes .n) n)
 
-    new-heap : batch (sizesOf h) (New v ∷ []) (heapOf h r) .heap ≡ settled (sizesOf h) (takeCell v (heapOf h r))
+    new-heap : batch (h .sizes) (New v ∷ []) (heapOf h r) .heap ≡ settled (h .sizes) (takeCell v (heapOf h r))
     unfolding batch calls heapOf
-    new-heap = ap (λ (o : Stepped). settled (sizesOf h) (o .heap)) new-taken
+    new-heap = ap (λ (o : Stepped). settled (h .sizes) (o .heap)) new-taken
 
-    fit : AllFit (sizesOf h) (New v ∷ [])
-    fit = calls-in-fit (sizesOf h) (newWords v) (New v ∷ []) (new-calls (h .m) v k)
+    fit : AllFit (h .sizes) (New v ∷ [])
+    fit = calls-in-fit (h .sizes) (newWords v) (New v ∷ []) (new-calls (h .sizes .m) v k)
 
-    new-holds : getD (batch (sizesOf h) (New v ∷ []) (heapOf h r) .heap .shape .variables) v none ≡ some (h .free)
+    new-holds : getD (batch (h .sizes) (New v ∷ []) (heapOf h r) .heap .shape .variables) v none ≡ some (h .free)
     unfolding takeCell hold heapOf
     new-holds =
         let ok = fine-of (Z .limits) in
-        let I : Inv (sizesOf h) (takeCell v (heapOf h r)) = subst (λ (o : Stepped). Inv (sizesOf h) (o .heap)) new-taken (step-inv (sizesOf h) ok (New v) (heapOf h r) ((entry-ended Z S) .inv) (fit .0)) in
-        let e = settled-done (sizesOf h) ok (takeCell v (heapOf h r)) I .1 .1 in
+        let I : Inv (h .sizes) (takeCell v (heapOf h r)) = subst (λ (o : Stepped). Inv (h .sizes) (o .heap)) new-taken (step-inv (h .sizes) ok (New v) (heapOf h r) ((entry-ended Z S) .inv) (fit .0)) in
+        let e = settled-done (h .sizes) ok (takeCell v (heapOf h r)) I .1 .1 in
         let long : v < length (heapOf h r .shape .variables) = let g = (entry-ended Z S) .inv .variables-long in omega arith in
         rw (new-heap, e) (getD-set-same (heapOf h r .shape .variables) v (some (h .free)) none long)
 
@@ -167,14 +167,14 @@ module _ {h : Head} {r : Lent} (Z : Sized h r) (S : Sound h r) (v : ℕ) (k : v 
       ap (λ (o : Batched). getD (o .rows .variables) v (negsuc 0)) new-left ∙ new-row ∙ ap variableOf new-holds,
     )
       where
-        new-row : getD (accepted h r (New v ∷ []) row .rows .variables) v (negsuc 0) ≡ variableOf (getD (batch (sizesOf h) (New v ∷ []) (heapOf h r) .heap .shape .variables) v none)
-        new-row = unfold accepted rowsOf in List·getD-map variableOf (batch (sizesOf h) (New v ∷ []) (heapOf h r) .heap .shape .variables) v none
+        new-row : getD (accepted h r (New v ∷ []) row .rows .variables) v (negsuc 0) ≡ variableOf (getD (batch (h .sizes) (New v ∷ []) (heapOf h r) .heap .shape .variables) v none)
+        new-row = unfold accepted rowsOf in List·getD-map variableOf (batch (h .sizes) (New v ∷ []) (heapOf h r) .heap .shape .variables) v none
 
 -- ---- the demand
 
 -- an accepted batch's calls are fit
-taken-fit : {h : Head} {r : Lent} {ws row : List ℤ} {o : Batched} (t : Taken h r ws row o) → AllFit (sizesOf h) (t .callable .calls)
-taken-fit {h} {ws = ws} t = calls-in-fit (sizesOf h) ws (t .callable .calls) (t .callable .decoded)
+taken-fit : {h : Head} {r : Lent} {ws row : List ℤ} {o : Batched} (t : Taken h r ws row o) → AllFit (h .sizes) (t .callable .calls)
+taken-fit {h} {ws = ws} t = calls-in-fit (h .sizes) ws (t .callable .calls) (t .callable .decoded)
 
 pub demand-2 : Demand2 ours
 demand-2 =

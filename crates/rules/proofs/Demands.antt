@@ -20,7 +20,7 @@ demand-3 = record { figures-hidden = figures-hidden; as-endless = as-endless }
 pub unique : (H G : Heaps) → Contracts H ours → Contracts G ours → Contracts H G
 unique H G c d =
     record {
-      fresh-as = λ n m l cap r. c .fresh-as n m l cap r ∙ sym (d .fresh-as n m l cap r);
+      fresh-as = λ s r. c .fresh-as s r ∙ sym (d .fresh-as s r);
       audit-as = λ h r. c .audit-as h r ∙ sym (d .audit-as h r);
       batch-as = λ h r ws row. c .batch-as h r ws row ∙ sym (d .batch-as h r ws row);
     }
@@ -28,7 +28,7 @@ unique H G c d =
 -- so they are one
 pub are-one : (H G : Heaps) → Contracts H G → H ≡ G
 are-one H G c = λ i. record {
-  fresh = λ n m l cap r. c .fresh-as n m l cap r i;
+  fresh = λ s r. c .fresh-as s r i;
   audit = λ h r. c .audit-as h r i;
   batch = λ h r ws row. c .batch-as h r ws row i;
 }

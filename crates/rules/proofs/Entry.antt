@@ -7,7 +7,6 @@ use lib.IntN.{ℤ}
 use lib.ListN.{length, length-map}
 use Rattle.rules.specs.declared.Head.{Head}
 use Rattle.rules.specs.declared.Call.{Call}
-use Rattle.rules.specs.Head.{sizesOf}
 use Rattle.rules.specs.Step.{batch}
 use Rattle.rules.specs.Rows.{Lent, fieldsOf, heapOf}
 use Rattle.rules.specs.Sound.{Sound, Sized}
@@ -46,7 +45,7 @@ sound-cleared S =
     }
 
 module _ {h : Head} {r : Lent} (Z : Sized h r) (S : Sound h r) where
-  plain : Plain (sizesOf h) (heapOf h r)
+  plain : Plain (h .sizes) (heapOf h r)
   unfolding heapOf
   plain =
       let L = Z .lengths in
@@ -56,14 +55,14 @@ module _ {h : Head} {r : Lent} (Z : Sized h r) (S : Sound h r) where
         log-none = refl;
       }
 
-  pub entry-ended : Ended (sizesOf h) (heapOf h r)
+  pub entry-ended : Ended (h .sizes) (heapOf h r)
   entry-ended =
-      sound-ended (sizesOf h) (fine-of (Z .limits)) (heapOf h r) plain
+      sound-ended (h .sizes) (fine-of (Z .limits)) (heapOf h r) plain
       (rw (head-of-heap Z, rows-of-heap Z S) (sound-cleared S))
 
-  module _ (cs : List Call) (F : AllFit (sizesOf h) cs) where
-    pub exit-ended : Ended (sizesOf h) (batch (sizesOf h) cs (heapOf h r) .heap)
-    exit-ended = batch-ended (sizesOf h) (fine-of (Z .limits)) cs (heapOf h r) (entry-ended .inv) F
+  module _ (cs : List Call) (F : AllFit (h .sizes) cs) where
+    pub exit-ended : Ended (h .sizes) (batch (h .sizes) cs (heapOf h r) .heap)
+    exit-ended = batch-ended (h .sizes) (fine-of (Z .limits)) cs (heapOf h r) (entry-ended .inv) F
 
     pub exit-sized : (row : List ℤ) → Sized (accepted h r cs row .outcome .head) (accepted h r cs row .rows)
     unfolding accepted
@@ -71,4 +70,4 @@ module _ {h : Head} {r : Lent} (Z : Sized h r) (S : Sound h r) where
 
     pub exit-sound : (row : List ℤ) → Sound (accepted h r cs row .outcome .head) (accepted h r cs row .rows)
     unfolding accepted
-    exit-sound row = ended-sound (sizesOf h) (fine-of (Z .limits)) (batch (sizesOf h) cs (heapOf h r) .heap) exit-ended
+    exit-sound row = ended-sound (h .sizes) (fine-of (Z .limits)) (batch (h .sizes) cs (heapOf h r) .heap) exit-ended

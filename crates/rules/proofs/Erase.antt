@@ -11,7 +11,7 @@ use Rattle.rules.specs.declared.Field.{Field}
 use Rattle.rules.specs.declared.Field.the-variants.{Nothing, Figure, Cell, Free}
 use Rattle.rules.specs.declared.Call.{Call}
 use Rattle.rules.specs.declared.Call.the-variants.{New, Copy, Clear, Link, Put, Blank, Follow, Read, Same, Settle}
-use Rattle.rules.specs.Head.{Sizes}
+use Rattle.rules.specs.declared.Sizes.{Sizes}
 use Rattle.rules.specs.Settle.{Shape, Heap, place, field, store, drops, pick, freeCell, onPick, reclaim, replayed, settledBy, settled}
 use Rattle.rules.specs.Call.{Answer, var, at, isCell, isFigure, check, logs, write, hold, toCell, target, act, value}
 use Rattle.rules.specs.Step.{Stepped, done, refused, settledIf, full, noneFree, after, takeCell, doNew, doSettle, doCall, room, run, step, calls, batch}

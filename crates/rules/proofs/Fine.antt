@@ -1,7 +1,8 @@
 -- Sizes within their limits. Assumes nothing.
 use Prim.Native.Nat.{_≤_}
 use Rattle.rules.specs.declared.Head.{Head}
-use Rattle.rules.specs.Head.{Sizes, Limits, sizesOf}
+use Rattle.rules.specs.declared.Sizes.{Sizes}
+use Rattle.rules.specs.Head.{Limits}
 
 pub record Fine (s : Sizes) : Type 0 where
   pub n-least : 1 ≤ s .n
@@ -14,7 +15,7 @@ pub record Fine (s : Sizes) : Type 0 where
   pub cap-most : s .cap ≤ 255
 
 -- the sizes of a head within its limits
-pub fine-of : {h : Head} → Limits h → Fine (sizesOf h)
+pub fine-of : {h : Head} → Limits h → Fine (h .sizes)
 fine-of L =
     record {
       n-least = L .n-least;

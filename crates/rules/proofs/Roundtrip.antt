@@ -11,7 +11,7 @@ use Rattle.rules.specs.declared.Head.{Head}
 use Rattle.rules.specs.declared.Call.{Call}
 use Rattle.rules.specs.declared.Field.{Field}
 use Rattle.rules.specs.declared.Field.the-variants.{Nothing, Figure, Cell, Free}
-use Rattle.rules.specs.Head.{Sizes, sizesOf}
+use Rattle.rules.specs.declared.Sizes.{Sizes}
 use Rattle.rules.specs.Field.{kindOf, valueOf, fieldOf, variableOf, heldOf}
 use Rattle.rules.specs.Table.{Entry, addresses, counts, pad, Above, Below, Ascending}
 use Rattle.rules.specs.Rules.{Transaction, allocates, creates, destroys}
@@ -153,7 +153,7 @@ module _ {h : Head} {r : Lent} (Z : Sized h r) where
   counts-long : length (take (h .mrt) (r .counts)) ≡ h .mrt
   counts-long = let l = Z .lengths in let m = Z .limits in length-take-le (h .mrt) (r .counts) (omega arith)
 
-  pub head-of-heap : headOf (sizesOf h) (heapOf h r) ≡ h
+  pub head-of-heap : headOf (h .sizes) (heapOf h r) ≡ h
   unfolding headOf heapOf
   head-of-heap = rw (zct-long, length-entries (take (h .mrt) (r .mrt)) (take (h .mrt) (r .counts)) (mrt-long ∙ sym counts-long), mrt-long)
 
@@ -163,9 +163,9 @@ module _ {h : Head} {r : Lent} (Z : Sized h r) where
         let g = half i in
         let k = g .is in
         let z = Z .lengths in
-        rw k (word-fits (h .n) (r .kinds) (g .cell) (g .part) _ _ (S .words (g .cell) (omega arith) (g .part) (g .small)))
+        rw k (word-fits (h .sizes .n) (r .kinds) (g .cell) (g .part) _ _ (S .words (g .cell) (omega arith) (g .part) (g .small)))
 
-    pub rows-of-heap : rowsOf (sizesOf h) (heapOf h r) ≡ cleared h r
+    pub rows-of-heap : rowsOf (h .sizes) (heapOf h r) ≡ cleared h r
     unfolding rowsOf heapOf
     rows-of-heap =
         let l = Z .lengths in
@@ -174,13 +174,13 @@ module _ {h : Head} {r : Lent} (Z : Sized h r) where
         rw (
           kinds-again (r .kinds) (r .values) (omega arith) fits,
           values-again (r .kinds) (r .values) (omega arith) fits,
-          variables-again (h .n) (r .kinds) (r .variables) (S .variables),
-          pad-again (h .n) (h .zct) (r .zct) (l .for-zct) (m .zct-most) (S .zct-zeros),
+          variables-again (h .sizes .n) (r .kinds) (r .variables) (S .variables),
+          pad-again (h .sizes .n) (h .zct) (r .zct) (l .for-zct) (m .zct-most) (S .zct-zeros),
           addresses-again (take (h .mrt) (r .mrt)) (take (h .mrt) (r .counts)) e,
           counts-again (take (h .mrt) (r .mrt)) (take (h .mrt) (r .counts)) e,
-          pad-again (h .n) (h .mrt) (r .mrt) (l .for-mrt) (m .mrt-most) (S .mrt-zeros),
-          pad-again (h .n) (h .mrt) (r .counts) (l .for-counts) (m .mrt-most) (S .counts-zeros),
-          pad-again (2 * h .l) 0 (r .log) (l .for-log) zero-le (S .log-zero),
+          pad-again (h .sizes .n) (h .mrt) (r .mrt) (l .for-mrt) (m .mrt-most) (S .mrt-zeros),
+          pad-again (h .sizes .n) (h .mrt) (r .counts) (l .for-counts) (m .mrt-most) (S .counts-zeros),
+          pad-again (2 * h .sizes .l) 0 (r .log) (l .for-log) zero-le (S .log-zero),
         )
 
 -- ---- lengths

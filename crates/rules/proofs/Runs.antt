@@ -9,7 +9,8 @@ use lib.Dec.{leb}
 use lib.IntN.{ℤ}
 use lib.ListN.{length}
 use Rattle.rules.specs.declared.Call.{Call}
-use Rattle.rules.specs.Head.{Sizes, sizesOf, freshHead, zeroHead}
+use Rattle.rules.specs.declared.Sizes.{Sizes}
+use Rattle.rules.specs.Head.{freshHead, zeroHead}
 use Rattle.rules.specs.Settle.{Heap}
 use Rattle.rules.specs.Call.{callsIn}
 use Rattle.rules.specs.Step.{batch, fresh}
@@ -46,8 +47,8 @@ pub in-run-ended : (s : Sizes) → Fine s → (h : Heap) → Ended s h → (ws :
 in-run-ended s F h E ws cs e = batch-ended s F cs h (E .inv) (calls-in-fit s ws cs e)
 
 -- the sizes of an accepted fresh call are fine
-pub fine-fresh : (n m l cap : ℕ) (r : Lent) → freshOf n m l cap r .outcome .status ≡ 0 → Fine (sizesOf (freshHead n m l cap))
-fine-fresh n m l cap r e = fine-of (fresh-sized n m l cap r e .limits)
+pub fine-fresh : (s : Sizes) (r : Lent) → freshOf s r .outcome .status ≡ 0 → Fine s
+fine-fresh s r e = fine-of (fresh-sized s r e .limits)
 
 -- ---- what a batch leaves
 
@@ -100,16 +101,13 @@ one-batch s f h e b bs =
     rw (in-run s f h e (b .calls) (b .answers), a .head, a .rows)
 
 -- an accepted fresh heap
-pub fresh-is : (n m l cap : ℕ) (r : Lent) → freshOf n m l cap r .outcome .status ≡ 0
-    → freshOf n m l cap r ≡ leaves (outcome 0 (headOf (sizesOf (freshHead n m l cap)) (fresh (sizesOf (freshHead n m l cap)))) 0) (rowsOf (sizesOf (freshHead n m l cap)) (fresh (sizesOf (freshHead n m l cap))))
+pub fresh-is : (s : Sizes) (r : Lent) → freshOf s r .outcome .status ≡ 0
+    → freshOf s r ≡ leaves (outcome 0 (headOf s (fresh s)) 0) (rowsOf s (fresh s))
 unfolding freshOf headOf fresh
-fresh-is n m l cap r e = go (isSized (freshHead n m l cap) r) e
+fresh-is s r e = go (isSized (freshHead s) r) e
   where
-    s : Sizes
-    s = sizesOf (freshHead n m l cap)
-
     byTest : Bool → After
-    byTest q = cond q (leaves (outcome 0 (freshHead n m l cap) 0) (rowsOf s (fresh s))) (leaves (outcome 1 zeroHead 0) r)
+    byTest q = cond q (leaves (outcome 0 (freshHead s) 0) (rowsOf s (fresh s))) (leaves (outcome 1 zeroHead 0) r)
 
     go : (q : Bool) → byTest q .outcome .status ≡ 0 → byTest q ≡ leaves (outcome 0 (headOf s (fresh s)) 0) (rowsOf s (fresh s))
     go true e = refl

@@ -13,7 +13,7 @@ use Rattle.rules.specs.declared.Head.{Head}
 use Rattle.rules.specs.declared.Used.{Used}
 use Rattle.rules.specs.declared.Field.{Field}
 use Rattle.rules.specs.declared.Field.the-variants.{Nothing, Figure, Cell, Free}
-use Rattle.rules.specs.Head.{Sizes, sizesOf}
+use Rattle.rules.specs.declared.Sizes.{Sizes}
 use Rattle.rules.specs.Table.{addresses, counts, pad}
 use Rattle.rules.specs.Rules.{Transaction, allocates, creates, destroys}
 use Rattle.rules.specs.Settle.{Heap, place, field}
@@ -167,11 +167,11 @@ unfolding headOf
 used-at Z = ap (λ (x : Head). record { zct = x .zct; mrt = x .mrt }) (head-of-heap Z)
 
 -- the rows of a sound heap are the heap that is read from them
-pub whole-at : {h : Head} {r : Lent} → Sized h r → Sound h r → Inv (sizesOf h) (heapOf h r) → (work : List ℕ) → length work ≡ h .n
-    → Whole (h .n) (h .cap) (r .kinds) (r .values) (r .variables) (r .zct) (r .mrt) (r .counts) (r .log) work 0 (h .free) (record { zct = h .zct; mrt = h .mrt }) (heapOf h r)
+pub whole-at : {h : Head} {r : Lent} → Sized h r → Sound h r → Inv (h .sizes) (heapOf h r) → (work : List ℕ) → length work ≡ h .sizes .n
+    → Whole (h .sizes .n) (h .sizes .cap) (r .kinds) (r .values) (r .variables) (r .zct) (r .mrt) (r .counts) (r .log) work 0 (h .free) (record { zct = h .zct; mrt = h .mrt }) (heapOf h r)
 unfolding heapOf
 whole-at {h} {r} Z S I work e =
-    rw (rows-of-heap Z S, used-at Z) at (whole-of (sizesOf h) (fine-of (Z .limits)) (heapOf h r) I work e)
+    rw (rows-of-heap Z S, used-at Z) at (whole-of (h .sizes) (fine-of (Z .limits)) (heapOf h r) I work e)
 
 -- ---- and the converse, for an entry point's exit
 
@@ -190,7 +190,7 @@ module _ (s : Sizes) {ks : List ℕ} {xs vs : List ℤ} {zs ms cs log work : Lis
   rows-all e w = ap (λ (t : List ℕ). lent ks xs vs zs ms cs log t) w ∙ rows-are e
 
   -- and the head
-  pub head-is : record { n = s .n; m = s .m; l = s .l; cap = s .cap; free = free; zct = u .zct; mrt = u .mrt } ≡ headOf s h
+  pub head-is : record { sizes = s; free = free; zct = u .zct; mrt = u .mrt } ≡ headOf s h
   unfolding headOf
   head-is =
       let A = W .rows .ready .are in

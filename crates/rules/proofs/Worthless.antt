@@ -8,7 +8,7 @@ use native.Mathlib.Omega.{arith}
 use lib.IntN.{ℤ, pos, negsuc}
 use lib.ListN.{getD}
 use Rattle.rules.specs.declared.Head.{Head}
-use Rattle.rules.specs.Head.{freshHead}
+use Rattle.rules.specs.Head.{freshHead, sized}
 use Rattle.rules.specs.Sound.{Sound, Sized, Word, heldAmong}
 use Rattle.rules.specs.Decide.{sound?, sized?, dec-word}
 use Rattle.rules.specs.Rows as R
@@ -25,13 +25,13 @@ use Rattle.rules.proofs.Tests.{sized-true, sound-true}
 
 -- a heap of one cell and one variable: fresh, and with its cell held
 abbrev h₀ : Head
-h₀ = freshHead 1 1 2 3
+h₀ = freshHead (sized 1 1 2 3)
 
 abbrev r₀ : R.Lent
 r₀ = R.lent (3 ∷ 0 ∷ []) (pos 1 ∷ pos 0 ∷ []) (negsuc 0 ∷ []) (0 ∷ []) (0 ∷ []) (0 ∷ []) (0 ∷ 0 ∷ 0 ∷ 0 ∷ []) (0 ∷ [])
 
 abbrev h₁ : Head
-h₁ = record { n = 1; m = 1; l = 2; cap = 3; free = 1; zct = 1; mrt = 0 }
+h₁ = record { sizes = sized 1 1 2 3; free = 1; zct = 1; mrt = 0 }
 
 abbrev r₁ : R.Lent
 r₁ = R.lent (0 ∷ 0 ∷ []) (pos 0 ∷ pos 0 ∷ []) (pos 0 ∷ []) (0 ∷ []) (0 ∷ []) (0 ∷ []) (0 ∷ 0 ∷ 0 ∷ 0 ∷ []) (0 ∷ [])
@@ -69,8 +69,8 @@ seven =
 -- what they give, by computation
 record Computed : Type 0 where
   says-14 : getD (saysFourteen .batch h₀ r₀ (newWords 0) two .answers) 0 (negsuc 0) ≡ pos 14
-  fresh-accepted : answersNought .fresh 1 1 2 3 r₀ .outcome .status ≡ 0
-  reads-0 : N.AsEndless (N.but14 (N.saidIn 1 (seven ∷ []) (N.runOf answersNought 1 1 2 3 r₀ (seven ∷ [])))) (E.endless 1) → pos 0 ≡ pos 7
+  fresh-accepted : answersNought .fresh (sized 1 1 2 3) r₀ .outcome .status ≡ 0
+  reads-0 : N.AsEndless (N.but14 (N.saidIn 1 (seven ∷ []) (N.runOf answersNought (sized 1 1 2 3) r₀ (seven ∷ [])))) (E.endless 1) → pos 0 ≡ pos 7
   nothing-accepted : freesNothing .batch h₁ r₁ clear₀ two .outcome .status ≡ 0
   nothing-zct : freesNothing .batch h₁ r₁ clear₀ two .outcome .head .zct ≡ 1
   nothing-unheld : heldAmong 1 (freesNothing .batch h₁ r₁ clear₀ two .rows .variables) (getD (freesNothing .batch h₁ r₁ clear₀ two .rows .zct) 0 0) 1 ≡ false
@@ -116,7 +116,7 @@ worthless-says-14 d =
 -- 0 always: a figure 7 put and read
 pub worthless-answers-0 : Demand3 answersNought → ⊥
 worthless-answers-0 d =
-    let e : pos 0 ≡ pos 7 = computed .reads-0 (d .as-endless 1 1 2 3 r₀ (seven ∷ []) (computed .fresh-accepted)) in
+    let e : pos 0 ≡ pos 7 = computed .reads-0 (d .as-endless (sized 1 1 2 3) r₀ (seven ∷ []) (computed .fresh-accepted)) in
     let z : _≡_ {A = ℕ} 0 7 = cc in
     omega arith
 

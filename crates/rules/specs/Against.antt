@@ -6,13 +6,14 @@ use lib.IntN.{pos}
 use Rattle.rules.specs.declared.Field.the-variants.{Nothing, Free}
 use Rattle.rules.specs.declared.Call.{Call}
 use Rattle.rules.specs.declared.Call.the-variants.{New, Clear, Link, Put, Blank, Settle}
-use Rattle.rules.specs.Head.{Sizes}
+use Rattle.rules.specs.declared.Sizes.{Sizes}
+use Rattle.rules.specs.Head.{sized}
 use Rattle.rules.specs.Table.{entry}
 use Rattle.rules.specs.Step as P
 
 -- n cells, m 3, L 4, cap 3
 abbrev sizes : ℕ → Sizes
-sizes n = record { n = n; m = 3; l = 4; cap = 3 }
+sizes n = sized n 3 4 3
 
 -- a batch on a fresh heap of n cells
 abbrev ends : ℕ → List Call → P.Result

@@ -8,7 +8,7 @@ use lib.IntN.{ℤ, pos, negsuc}
 use Rattle.rules.specs.declared.Head.{Head}
 use Rattle.rules.specs.declared.Call.{Call}
 use Rattle.rules.specs.declared.Call.the-variants.{New, Copy, Clear, Link, Put, Blank, Follow, Read, Same, Settle}
-use Rattle.rules.specs.Head.{freshHead}
+use Rattle.rules.specs.Head.{freshHead, sized}
 use Rattle.rules.specs.Rows.{Lent, lent}
 use Rattle.rules.specs.Sound.{listFrom}
 use Rattle.rules.specs.Refusals.{After, Batched, freshOf, batchOf}
@@ -61,7 +61,7 @@ lentRows n =
 
 -- m 3, L 4, cap 3
 unfoldable pub freshly : ℕ → After
-freshly n = freshOf n 3 4 3 (lentRows n)
+freshly n = freshOf (sized n 3 4 3) (lentRows n)
 
 unfoldable pub outcomeOf : Case → Batched
 outcomeOf c = batchOf (freshly (c .cells) .outcome .head) (freshly (c .cells) .rows) (allWords (c .calls)) (replicate (2 * length (c .calls)) (negsuc 6))
@@ -107,7 +107,7 @@ sameRows r q =
 
 abbrev pub sameHead : Head → Head → Bool
 sameHead h k =
-    eqb (h .n) (k .n) && eqb (h .m) (k .m) && eqb (h .l) (k .l) && eqb (h .cap) (k .cap) && eqb (h .free) (k .free) && eqb (h .zct) (k .zct) && eqb (h .mrt) (k .mrt)
+    eqb (h .sizes .n) (k .sizes .n) && eqb (h .sizes .m) (k .sizes .m) && eqb (h .sizes .l) (k .sizes .l) && eqb (h .sizes .cap) (k .sizes .cap) && eqb (h .free) (k .free) && eqb (h .zct) (k .zct) && eqb (h .mrt) (k .mrt)
 
 abbrev pub holdsOf : ℕ → Batched → Claim → Bool
 holdsOf n o accepted = eqb (o .outcome .status) 0
@@ -118,7 +118,7 @@ holdsOf n o (total k) = eqb (o .outcome .count) k
 holdsOf n o (zct l) = sameℕs (take (o .outcome .head .zct) (o .rows .zct)) l
 holdsOf n o (mrt l ks) = sameℕs (take (o .outcome .head .mrt) (o .rows .mrt)) l && sameℕs (take (o .outcome .head .mrt) (o .rows .counts)) ks
 holdsOf n o (freeList l) = sameℕs (listFrom n (o .rows .values) (suc n) (o .outcome .head .free)) l
-holdsOf n o stillFresh = sameHead (o .outcome .head) (freshHead n 3 4 3) && sameRows (o .rows) (freshly n .rows)
+holdsOf n o stillFresh = sameHead (o .outcome .head) (freshHead (sized n 3 4 3)) && sameRows (o .rows) (freshly n .rows)
 
 abbrev pub allOf : ℕ → Batched → List Claim → Bool
 allOf n o [] = true

@@ -7,9 +7,10 @@ use mathlib.Core.List.{List, [], _∷_}
 use lib.ListN.{length, getD, drop, replicate}
 use lib.IntN.{ℤ, pos, negsuc}
 use Rattle.rules.specs.declared.Head.{Head}
+use Rattle.rules.specs.declared.Sizes.{Sizes}
 use Rattle.rules.specs.declared.Call.{Call}
 use Rattle.rules.specs.declared.Call.the-variants.{New, Copy, Clear, Link, Put, Blank, Follow, Read, Same, Settle}
-use Rattle.rules.specs.Head.{sizesOf, freshHead, zeroHead}
+use Rattle.rules.specs.Head.{freshHead, zeroHead}
 use Rattle.rules.specs.Call.{callsIn, isNought}
 use Rattle.rules.specs.Step.{fresh}
 use Rattle.rules.specs.Rows.{Lent, rowsOf}
@@ -23,13 +24,13 @@ use Rattle.rules.specs.Run.{Heaps, Batch, runOf, AlikeBatches, AlikeRows
 -- the words are calls as they should be, and the answers row has two words for each
 pub record Callable (h : Head) (ws row : List ℤ) : Type 0 where
   pub calls : List Call
-  pub decoded : callsIn (h .m) ws ≡ some calls
+  pub decoded : callsIn (h .sizes .m) ws ≡ some calls
   pub room : 2 * length calls ≤ length row
 
 -- the answers row is shorter than two words a call
 pub record TooShort (h : Head) (ws row : List ℤ) : Type 0 where
   pub calls : List Call
-  pub decoded : callsIn (h .m) ws ≡ some calls
+  pub decoded : callsIn (h .sizes .m) ws ≡ some calls
   pub short : length row < 2 * length calls
 
 -- the status is k exactly when P, and then this is what is left
@@ -41,19 +42,19 @@ pub record Exactly (P : Type 0) (k : ℕ) (o what : Batched) : Type 0 where
 pub record Demand1 (H : Heaps) : Type 0 where
   -- refusals 1, 2 and 3 change nothing; refusal 4 only clears the work row; checks run in the order 1, 2, 3, 4
   pub refused-1 : (h : Head) (r : Lent) (ws row : List ℤ) → Exactly (Sized h r → ⊥) 1 (H .batch h r ws row) (leavesWith (outcome 1 h 0) r row)
-  pub refused-2 : (h : Head) (r : Lent) (ws row : List ℤ) → Exactly (Sized h r × (callsIn (h .m) ws ≡ none)) 2 (H .batch h r ws row) (leavesWith (outcome 2 h 0) r row)
+  pub refused-2 : (h : Head) (r : Lent) (ws row : List ℤ) → Exactly (Sized h r × (callsIn (h .sizes .m) ws ≡ none)) 2 (H .batch h r ws row) (leavesWith (outcome 2 h 0) r row)
   pub refused-3 : (h : Head) (r : Lent) (ws row : List ℤ) → Exactly (Sized h r × TooShort h ws row) 3 (H .batch h r ws row) (leavesWith (outcome 3 h 0) r row)
   pub refused-4 : (h : Head) (r : Lent) (ws row : List ℤ) → Exactly (Sized h r × Callable h ws row × (Sound h r → ⊥)) 4 (H .batch h r ws row) (leavesWith (outcome 4 h 0) (cleared h r) row)
   -- and for no others
   pub accepted-else : (h : Head) (r : Lent) (ws row : List ℤ) → Sized h r → Callable h ws row → Sound h r → H .batch h r ws row .outcome .status ≡ 0
   -- the work row is then zero, and answers past the last call are untouched
-  pub work-zero : (h : Head) (r : Lent) (ws row : List ℤ) → H .batch h r ws row .outcome .status ≡ 0 → H .batch h r ws row .rows .work ≡ replicate (h .n) 0
-  pub answers-past : (h : Head) (r : Lent) (ws row : List ℤ) (cs : List Call) → callsIn (h .m) ws ≡ some cs → H .batch h r ws row .outcome .status ≡ 0
+  pub work-zero : (h : Head) (r : Lent) (ws row : List ℤ) → H .batch h r ws row .outcome .status ≡ 0 → H .batch h r ws row .rows .work ≡ replicate (h .sizes .n) 0
+  pub answers-past : (h : Head) (r : Lent) (ws row : List ℤ) (cs : List Call) → callsIn (h .sizes .m) ws ≡ some cs → H .batch h r ws row .outcome .status ≡ 0
       → (length (H .batch h r ws row .answers) ≡ length row) × (drop (2 * length cs) (H .batch h r ws row .answers) ≡ drop (2 * length cs) row)
   -- the fresh call gives only 1, with a head of zeros; else a fresh heap
-  pub fresh-refuses-only-1 : (n m l cap : ℕ) (r : Lent)
-      → ((Sized (freshHead n m l cap) r → ⊥) → H .fresh n m l cap r ≡ leaves (outcome 1 zeroHead 0) r)
-      × (Sized (freshHead n m l cap) r → H .fresh n m l cap r ≡ leaves (outcome 0 (freshHead n m l cap) 0) (rowsOf (sizesOf (freshHead n m l cap)) (fresh (sizesOf (freshHead n m l cap)))))
+  pub fresh-refuses-only-1 : (s : Sizes) (r : Lent)
+      → ((Sized (freshHead s) r → ⊥) → H .fresh s r ≡ leaves (outcome 1 zeroHead 0) r)
+      × (Sized (freshHead s) r → H .fresh s r ≡ leaves (outcome 0 (freshHead s) 0) (rowsOf s (fresh s)))
   -- the audit 1 and 4
   pub audit-refuses-only-1-and-4 : (h : Head) (r : Lent)
       → ((Sized h r → ⊥) → H .audit h r ≡ leaves (outcome 1 h 0) r)
@@ -65,8 +66,8 @@ pub record Demand1 (H : Heaps) : Type 0 where
 -- a cell not at the cap has its exact number of pointers from cells: none in ZCT, the count in MRT, else one
 pub record ExactBelowCap (h : Head) (r : Lent) : Type 0 where
   pub none : (j : ℕ) → j < h .zct → pointersTo h r (getD (r .zct) j 0) ≡ 0
-  pub many : (j : ℕ) → j < h .mrt → getD (r .counts) j 0 < h .cap → pointersTo h r (getD (r .mrt) j 0) ≡ getD (r .counts) j 0
-  pub one : (a : ℕ) → Live (h .n) (r .kinds) a → NotIn (r .zct) (h .zct) a → NotIn (r .mrt) (h .mrt) a → pointersTo h r a ≡ 1
+  pub many : (j : ℕ) → j < h .mrt → getD (r .counts) j 0 < h .sizes .cap → pointersTo h r (getD (r .mrt) j 0) ≡ getD (r .counts) j 0
+  pub one : (a : ℕ) → Live (h .sizes .n) (r .kinds) a → NotIn (r .zct) (h .zct) a → NotIn (r .mrt) (h .mrt) a → pointersTo h r a ≡ 1
 
 abbrev pub isNew : Call → Bool
 isNew (New v) = true
@@ -95,23 +96,23 @@ newWords v = pos 1 ∷ pos v ∷ pos 0 ∷ pos 0 ∷ []
 
 pub record Demand2 (H : Heaps) : Type 0 where
   -- what the rules give: tables, free list, fields, answers and count
-  pub by-the-rules : (h : Head) (r : Lent) (ws row : List ℤ) (cs : List Call) → callsIn (h .m) ws ≡ some cs → H .batch h r ws row .outcome .status ≡ 0 → H .batch h r ws row ≡ accepted h r cs row
+  pub by-the-rules : (h : Head) (r : Lent) (ws row : List ℤ) (cs : List Call) → callsIn (h .sizes .m) ws ≡ some cs → H .batch h r ws row .outcome .status ≡ 0 → H .batch h r ws row ≡ accepted h r cs row
   -- an accepted batch leaves a sound heap, which is never refused with 4
   pub batch-sound : (h : Head) (r : Lent) (ws row : List ℤ) → H .batch h r ws row .outcome .status ≡ 0
       → Sized (H .batch h r ws row .outcome .head) (H .batch h r ws row .rows) × Sound (H .batch h r ws row .outcome .head) (H .batch h r ws row .rows)
   pub exact-below-cap : (h : Head) (r : Lent) (ws row : List ℤ) → H .batch h r ws row .outcome .status ≡ 0 → ExactBelowCap (H .batch h r ws row .outcome .head) (H .batch h r ws row .rows)
   -- afterwards some variable holds each ZCT cell
   pub frees-all : (h : Head) (r : Lent) (ws row : List ℤ) → H .batch h r ws row .outcome .status ≡ 0
-      → (j : ℕ) → j < H .batch h r ws row .outcome .head .zct → heldAmong (h .n) (H .batch h r ws row .rows .variables) (getD (H .batch h r ws row .rows .zct) j 0) (h .m) ≡ true
+      → (j : ℕ) → j < H .batch h r ws row .outcome .head .zct → heldAmong (h .sizes .n) (H .batch h r ws row .rows .variables) (getD (H .batch h r ws row .rows .zct) j 0) (h .sizes .m) ≡ true
   -- the count is the growth of the free cells plus the cells handed out
-  pub count-is-freed : (h : Head) (r : Lent) (ws row : List ℤ) (cs : List Call) → callsIn (h .m) ws ≡ some cs → H .batch h r ws row .outcome .status ≡ 0
+  pub count-is-freed : (h : Head) (r : Lent) (ws row : List ℤ) (cs : List Call) → callsIn (h .sizes .m) ws ≡ some cs → H .batch h r ws row .outcome .status ≡ 0
       → freeCells r + H .batch h r ws row .outcome .count ≡ freeCells (H .batch h r ws row .rows) + handedOut (said cs (H .batch h r ws row .answers))
   -- free cells are handed out again: a new takes the first
-  pub handed-out-again : (h : Head) (r : Lent) (v : ℕ) (row : List ℤ) → Sized h r → Sound h r → v < h .m → 2 ≤ length row → h .free < h .n
+  pub handed-out-again : (h : Head) (r : Lent) (v : ℕ) (row : List ℤ) → Sized h r → Sound h r → v < h .sizes .m → 2 ≤ length row → h .free < h .sizes .n
       → (getD (H .batch h r (newWords v) row .answers) 0 (negsuc 0) ≡ pos 0) × (getD (H .batch h r (newWords v) row .rows .variables) v (negsuc 0) ≡ pos (h .free))
   -- 14 is given exactly if no cell is free (a sound heap is settled)
-  pub fourteen-exactly : (h : Head) (r : Lent) (v : ℕ) (row : List ℤ) → Sized h r → Sound h r → v < h .m → 2 ≤ length row
-      → (getD (H .batch h r (newWords v) row .answers) 0 (negsuc 0) ≡ pos 14 → h .free ≡ h .n) × (h .free ≡ h .n → getD (H .batch h r (newWords v) row .answers) 0 (negsuc 0) ≡ pos 14)
+  pub fourteen-exactly : (h : Head) (r : Lent) (v : ℕ) (row : List ℤ) → Sized h r → Sound h r → v < h .sizes .m → 2 ≤ length row
+      → (getD (H .batch h r (newWords v) row .answers) 0 (negsuc 0) ≡ pos 14 → h .free ≡ h .sizes .n) × (h .free ≡ h .sizes .n → getD (H .batch h r (newWords v) row .answers) 0 (negsuc 0) ≡ pos 14)
   -- the audit says yes exactly for a sound heap
   pub audit-exactly : (h : Head) (r : Lent) → Sized h r → (H .audit h r .outcome .status ≡ 0 → Sound h r) × (Sound h r → H .audit h r .outcome .status ≡ 0)
 
@@ -120,17 +121,17 @@ pub record Demand2 (H : Heaps) : Type 0 where
 pub record Demand3 (H : Heaps) : Type 0 where
   -- two runs from fresh heaps of equal sizes, with equal answers rows lent and equal batches but for the figures put:
   -- all answers and memory agree except the figures themselves
-  pub figures-hidden : (n m l cap : ℕ) (r q : Lent) (bs cs : List Batch) → H .fresh n m l cap r .outcome .status ≡ 0 → H .fresh n m l cap q .outcome .status ≡ 0 → AlikeBatches bs cs
-      → AlikeRows (H .fresh n m l cap r .rows) (H .fresh n m l cap q .rows) × AlikeRuns bs (runOf H n m l cap r bs) (runOf H n m l cap q cs)
+  pub figures-hidden : (s : Sizes) (r q : Lent) (bs cs : List Batch) → H .fresh s r .outcome .status ≡ 0 → H .fresh s q .outcome .status ≡ 0 → AlikeBatches bs cs
+      → AlikeRows (H .fresh s r .rows) (H .fresh s q .rows) × AlikeRuns bs (runOf H s r bs) (runOf H s q cs)
   -- every read, and every test for the same cell, answers in each run as on an endless heap that never reclaims,
   -- its calls answered 14 and its refused batches left out
-  pub as-endless : (n m l cap : ℕ) (r : Lent) (bs : List Batch) → H .fresh n m l cap r .outcome .status ≡ 0
-      → AsEndless (but14 (saidIn m bs (runOf H n m l cap r bs))) (endless m)
+  pub as-endless : (s : Sizes) (r : Lent) (bs : List Batch) → H .fresh s r .outcome .status ≡ 0
+      → AsEndless (but14 (saidIn (s .m) bs (runOf H s r bs))) (endless (s .m))
 
 -- ---- what the entry points' contracts promise is enough
 
 -- a heap that is ours in every outcome
 pub record Contracts (H G : Heaps) : Type 0 where
-  pub fresh-as : (n m l cap : ℕ) (r : Lent) → H .fresh n m l cap r ≡ G .fresh n m l cap r
+  pub fresh-as : (s : Sizes) (r : Lent) → H .fresh s r ≡ G .fresh s r
   pub audit-as : (h : Head) (r : Lent) → H .audit h r ≡ G .audit h r
   pub batch-as : (h : Head) (r : Lent) (ws row : List ℤ) → H .batch h r ws row ≡ G .batch h r ws row

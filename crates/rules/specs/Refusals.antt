@@ -7,9 +7,10 @@ use lib.Dec.{leb}
 use lib.ListN.{length, drop, replicate}
 use lib.IntN.{ℤ, pos}
 use Rattle.rules.specs.declared.Head.{Head}
+use Rattle.rules.specs.declared.Sizes.{Sizes}
 use Rattle.rules.specs.declared.Call.{Call}
 use Rattle.rules.specs.declared.Outcome.{Outcome}
-use Rattle.rules.specs.Head.{sizesOf, freshHead, zeroHead}
+use Rattle.rules.specs.Head.{freshHead, zeroHead}
 use Rattle.rules.specs.Call.{Answer, callsIn}
 use Rattle.rules.specs.Step.{batch, fresh}
 use Rattle.rules.specs.Rows.{Lent, rowsOf, headOf, heapOf}
@@ -57,16 +58,15 @@ cleared h r =
       mrt = r .mrt;
       counts = r .counts;
       log = r .log;
-      work = replicate (h .n) 0;
+      work = replicate (h .sizes .n) 0;
     }
 
 -- ---- fresh: gives only 1
 
 -- a refused fresh call returns 1, a head of zeros and a count of 0; an accepted one 0, the new head and a count of 0
-unfoldable pub freshOf : ℕ → ℕ → ℕ → ℕ → Lent → After
-freshOf n m l cap r =
-    let h = freshHead n m l cap in
-    cond (isSized h r) (leaves (outcome 0 h 0) (rowsOf (sizesOf h) (fresh (sizesOf h)))) (leaves (outcome 1 zeroHead 0) r)
+unfoldable pub freshOf : Sizes → Lent → After
+freshOf s r =
+    cond (isSized (freshHead s) r) (leaves (outcome 0 (freshHead s) 0) (rowsOf s (fresh s))) (leaves (outcome 1 zeroHead 0) r)
 
 -- ---- audit: gives 1 and 4
 
@@ -88,7 +88,7 @@ answered as′ row = answerWords as′ ++ drop (2 * length as′) row
 -- an accepted batch returns 0, the new head and the cells freed by all its settles
 unfoldable pub accepted : Head → Lent → List Call → List ℤ → Batched
 accepted h r cs row =
-    let s = sizesOf h in
+    let s = h .sizes in
     let b = batch s cs (heapOf h r) in
     leavesWith (outcome 0 (headOf s (b .heap)) (b .heap .freed)) (rowsOf s (b .heap)) (answered (b .answers) row)
 
@@ -107,4 +107,4 @@ checkCalls h r (some cs) row = checkAnswers h r cs row
 
 -- 1: a head number or row length is outside its limits
 unfoldable pub batchOf : Head → Lent → List ℤ → List ℤ → Batched
-batchOf h r ws row = cond (isSized h r) (checkCalls h r (callsIn (h .m) ws) row) (leavesWith (outcome 1 h 0) r row)
+batchOf h r ws row = cond (isSized h r) (checkCalls h r (callsIn (h .sizes .m) ws) row) (leavesWith (outcome 1 h 0) r row)

@@ -9,7 +9,7 @@ use Rattle.rules.specs.declared.Head.{Head}
 use Rattle.rules.specs.declared.Used.{Used}
 use Rattle.rules.specs.declared.Field.{Field}
 use Rattle.rules.specs.declared.Field.the-variants.{Nothing, Figure, Cell, Free}
-use Rattle.rules.specs.Head.{Sizes}
+use Rattle.rules.specs.declared.Sizes.{Sizes}
 use Rattle.rules.specs.Field.{kindOf, valueOf, fieldOf, variableOf, heldOf}
 use Rattle.rules.specs.Table.{Entry, entry, addresses, counts, pad, All, Below, Ascending}
 use Rattle.rules.specs.Rules.{Tables, Transaction, allocates, creates, destroys}
@@ -54,10 +54,7 @@ rowsOf s h =
 unfoldable pub headOf : Sizes → Heap → Head
 headOf s h =
     record {
-      n = s .n;
-      m = s .m;
-      l = s .l;
-      cap = s .cap;
+      sizes = s;
       free = h .first;
       zct = length (h .tables .zct);
       mrt = length (h .tables .mrt);

@@ -9,6 +9,7 @@ use lib.Dec.{eqb}
 use lib.ListN.{length, getD, drop}
 use lib.IntN.{ℤ, pos, negsuc}
 use Rattle.rules.specs.declared.Head.{Head}
+use Rattle.rules.specs.declared.Sizes.{Sizes}
 use Rattle.rules.specs.declared.Call.{Call}
 use Rattle.rules.specs.declared.Call.the-variants.{New, Copy, Clear, Link, Put, Blank, Follow, Read, Same, Settle}
 use Rattle.rules.specs.Field.{Signed32}
@@ -21,7 +22,7 @@ use Rattle.rules.specs.Endless.{Endless, endlessStep}
 
 -- from the input to what is left
 pub record Heaps : Type 0 where
-  pub fresh : ℕ → ℕ → ℕ → ℕ → Lent → After
+  pub fresh : Sizes → Lent → After
   pub audit : Head → Lent → After
   pub batch : Head → Lent → List ℤ → List ℤ → Batched
 
@@ -42,8 +43,8 @@ runFrom H h r [] = []
 runFrom H h r (b ∷ bs) = let o = H .batch h r (b .calls) (b .answers) in o ∷ runFrom H (o .outcome .head) (o .rows) bs
 
 -- from a fresh heap
-unfoldable pub runOf : Heaps → ℕ → ℕ → ℕ → ℕ → Lent → List Batch → List Batched
-runOf H n m l cap r bs = let f = H .fresh n m l cap r in runFrom H (f .outcome .head) (f .rows) bs
+unfoldable pub runOf : Heaps → Sizes → Lent → List Batch → List Batched
+runOf H s r bs = let f = H .fresh s r in runFrom H (f .outcome .head) (f .rows) bs
 
 -- ---- equal but for the figures
 

@@ -92,7 +92,7 @@ pointers n ks vs b (suc i) = cond (eqb (pointsTo n (getD ks i 0) (getD vs i (pos
 
 -- how many pointers from cells b has
 abbrev pub pointersTo : Head → Lent → ℕ → ℕ
-pointersTo h r b = pointers (h .n) (r .kinds) (r .values) b (2 * h .n)
+pointersTo h r b = pointers (h .sizes .n) (r .kinds) (r .values) b (2 * h .sizes .n)
 
 -- does one of the first v variables hold b?
 abbrev pub heldAmong : ℕ → List ℤ → ℕ → ℕ → Bool
@@ -130,41 +130,41 @@ pub record FreeList (n : ℕ) (ks : List ℕ) (vs : List ℤ) (first : ℕ) : Ty
 
 pub record Sound (h : Head) (r : Lent) : Type 0 where
   -- kinds and values are as above; pointers name cells that aren't free
-  pub words : Words (h .n) (r .kinds) (r .values)
+  pub words : Words (h .sizes .n) (r .kinds) (r .values)
   -- variables name cells that aren't free, or are -1
-  pub variables : Variables (h .n) (r .kinds) (r .variables)
+  pub variables : Variables (h .sizes .n) (r .kinds) (r .variables)
   -- table rows are as above: ascending by address, so that none names a cell twice; ZCT and MRT name cells that aren't free
-  pub zct-row : TableRow (h .n) (r .kinds) (r .zct) (h .zct)
-  pub mrt-row : TableRow (h .n) (r .kinds) (r .mrt) (h .mrt)
+  pub zct-row : TableRow (h .sizes .n) (r .kinds) (r .zct) (h .zct)
+  pub mrt-row : TableRow (h .sizes .n) (r .kinds) (r .mrt) (h .mrt)
   -- zeros after the used part
   pub zct-zeros : ZeroFrom (r .zct) (h .zct)
   pub mrt-zeros : ZeroFrom (r .mrt) (h .mrt)
   pub counts-zeros : ZeroFrom (r .counts) (h .mrt)
   -- the free list meets every free cell once
-  pub free-list : FreeList (h .n) (r .kinds) (r .values) (h .free)
+  pub free-list : FreeList (h .sizes .n) (r .kinds) (r .values) (h .free)
   -- ZCT and MRT share no cell
   pub apart : (i j : ℕ) → i < h .zct → j < h .mrt → getD (r .zct) i 0 ≡ getD (r .mrt) j 0 → ⊥
   -- a cell that isn't free and is in neither has one pointer from cells
-  pub one : (a : ℕ) → Live (h .n) (r .kinds) a → NotIn (r .zct) (h .zct) a → NotIn (r .mrt) (h .mrt) a → pointersTo h r a ≡ 1
+  pub one : (a : ℕ) → Live (h .sizes .n) (r .kinds) a → NotIn (r .zct) (h .zct) a → NotIn (r .mrt) (h .mrt) a → pointersTo h r a ≡ 1
   -- a ZCT cell has none, and some variable holds it
   pub none : (j : ℕ) → j < h .zct → pointersTo h r (getD (r .zct) j 0) ≡ 0
-  pub held : (j : ℕ) → j < h .zct → heldAmong (h .n) (r .variables) (getD (r .zct) j 0) (length (r .variables)) ≡ true
+  pub held : (j : ℕ) → j < h .zct → heldAmong (h .sizes .n) (r .variables) (getD (r .zct) j 0) (length (r .variables)) ≡ true
   -- an MRT count from 2 to below the cap is exact, and a count at the cap may stand with any number; no other count occurs
-  pub exact : (j : ℕ) → j < h .mrt → getD (r .counts) j 0 < h .cap → pointersTo h r (getD (r .mrt) j 0) ≡ getD (r .counts) j 0
-  pub ranged : Ranged (r .counts) (h .mrt) (h .cap)
+  pub exact : (j : ℕ) → j < h .mrt → getD (r .counts) j 0 < h .sizes .cap → pointersTo h r (getD (r .mrt) j 0) ≡ getD (r .counts) j 0
+  pub ranged : Ranged (r .counts) (h .mrt) (h .sizes .cap)
   -- log is zero
   pub log-zero : ZeroFrom (r .log) 0
 
 -- exact lengths in elements
 pub record Lengths (h : Head) (kinds values variables zct mrt counts log work : ℕ) : Type 0 where
-  pub for-kinds : kinds ≡ 2 * h .n
-  pub for-values : values ≡ 2 * h .n
-  pub for-variables : variables ≡ h .m
-  pub for-zct : zct ≡ h .n
-  pub for-mrt : mrt ≡ h .n
-  pub for-counts : counts ≡ h .n
-  pub for-log : log ≡ 2 * h .l
-  pub for-work : work ≡ h .n
+  pub for-kinds : kinds ≡ 2 * h .sizes .n
+  pub for-values : values ≡ 2 * h .sizes .n
+  pub for-variables : variables ≡ h .sizes .m
+  pub for-zct : zct ≡ h .sizes .n
+  pub for-mrt : mrt ≡ h .sizes .n
+  pub for-counts : counts ≡ h .sizes .n
+  pub for-log : log ≡ 2 * h .sizes .l
+  pub for-work : work ≡ h .sizes .n
 
 -- the head's numbers and the rows' lengths are as above
 pub record Sized (h : Head) (r : Lent) : Type 0 where

@@ -7,7 +7,7 @@ use lib.Dec.{eqb}
 use lib.IntN.{ℤ, pos}
 use Rattle.rules.specs.declared.Head.{Head}
 use Rattle.rules.specs.declared.Call.{Call}
-use Rattle.rules.specs.Head.{Sizes, sizesOf}
+use Rattle.rules.specs.declared.Sizes.{Sizes}
 use Rattle.rules.specs.Settle.{Heap, replayed}
 use Rattle.rules.specs.Call.{answer, callsIn}
 use Rattle.rules.specs.Step.{Result, step}
@@ -52,12 +52,12 @@ callsEnding f s (c ∷ cs) h =
 abbrev pub endingCalls : (Sizes → Heap → Heap) → Head → Lent → Option (List Call) → List ℤ → Batched → Batched
 endingCalls f h r none row o = o
 endingCalls f h r (some cs) row o =
-    let s = sizesOf h in
+    let s = h .sizes in
     let b = callsEnding f s cs (heapOf h r) in
     leavesWith (outcome 0 (headOf s (b .heap)) (b .heap .freed)) (rowsOf s (b .heap)) (answered (b .answers) row)
 
 abbrev pub ending : (Sizes → Heap → Heap) → Head → Lent → List ℤ → List ℤ → Batched
-ending f h r ws row = changed (endingCalls f h r (callsIn (h .m) ws) row) h r ws row
+ending f h r ws row = changed (endingCalls f h r (callsIn (h .sizes .m) ws) row) h r ws row
 
 -- the settle frees nothing: it only replays
 abbrev pub freesNothing : Heaps

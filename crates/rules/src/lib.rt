@@ -1,21 +1,18 @@
 // The types of the heap: its head, a field, a call, an outcome. What they mean stands in specs/.
 ghost use mathlib.Core.Path.{_≡_};
-ghost use Rattle.rules.specs.Head.{freshHead, Limits, Says};
+ghost use Rattle.rules.specs.Head.{sized, freshHead, Limits, Says};
 
-// Beside the rows goes a head by value: the sizes, the first free address, the used lengths of ZCT and MRT.
+// What stays the same through a heap's life: cells, variables, log entries, the cap of a count.
 #[repr(C)]
-pub struct Head {
+pub struct Sizes {
     pub n: usize,
     pub m: usize,
     pub l: usize,
     pub cap: usize,
-    pub free: usize,
-    pub zct: usize,
-    pub mrt: usize,
 }
 
-// The limits belong to the head.
-impl Head {
+// The limits belong to the sizes.
+impl Sizes {
     pub const CELLS_LEAST: usize = 1;
 
     pub const CELLS_MOST: usize = 1024;
@@ -32,15 +29,35 @@ impl Head {
 
     pub const CAP_MOST: usize = 255;
 
-    // The head of a fresh heap, from four numbers: all cells free, both tables empty.
-    pub fn fresh(n: usize, m: usize, l: usize, cap: usize) -> Head
-        ensures { λ r. ⌜ r ≡ freshHead n m l cap ⌝ }
+    // The sizes, by their four numbers.
+    pub fn plain(n: usize, m: usize, l: usize, cap: usize) -> Sizes
+        ensures { λ r. ⌜ r ≡ sized n m l cap ⌝ }
     {
-        Head {
+        Sizes {
             n: n,
             m: m,
             l: l,
             cap: cap,
+        }
+    }
+}
+
+// Beside the rows goes a head by value: the sizes, the first free address, the used lengths of ZCT and MRT.
+#[repr(C)]
+pub struct Head {
+    pub sizes: Sizes,
+    pub free: usize,
+    pub zct: usize,
+    pub mrt: usize,
+}
+
+impl Head {
+    // The head of a fresh heap, from its sizes: all cells free, both tables empty.
+    pub fn fresh(sizes: Sizes) -> Head
+        ensures { λ r. ⌜ r ≡ freshHead sizes ⌝ }
+    {
+        Head {
+            sizes: sizes,
             free: 0,
             zct: 0,
             mrt: 0,
@@ -51,23 +68,23 @@ impl Head {
     pub fn within(self) -> bool
         ensures { λ r. ⌜ Says r (Limits self) ⌝ }
     {
-        let n = self.n;
-        let m = self.m;
-        let l = self.l;
-        let cap = self.cap;
+        let n = self.sizes.n;
+        let m = self.sizes.m;
+        let l = self.sizes.l;
+        let cap = self.sizes.cap;
         let free = self.free;
         let zct = self.zct;
         let mrt = self.mrt;
-        if n < Head::CELLS_LEAST || Head::CELLS_MOST < n {
+        if n < Sizes::CELLS_LEAST || Sizes::CELLS_MOST < n {
             return false;
         }
-        if m < Head::VARIABLES_LEAST || Head::VARIABLES_MOST < m {
+        if m < Sizes::VARIABLES_LEAST || Sizes::VARIABLES_MOST < m {
             return false;
         }
-        if l < Head::ENTRIES_LEAST || Head::ENTRIES_MOST < l {
+        if l < Sizes::ENTRIES_LEAST || Sizes::ENTRIES_MOST < l {
             return false;
         }
-        if cap < Head::CAP_LEAST || Head::CAP_MOST < cap {
+        if cap < Sizes::CAP_LEAST || Sizes::CAP_MOST < cap {
             return false;
         }
         if n < free || n < zct || n < mrt {

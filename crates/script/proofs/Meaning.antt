@@ -11,7 +11,7 @@ use lib.ListN.{length, getD}
 use lib.IntN.{ℤ, pos}
 use Rattle.rules.specs.declared.Call.{Call}
 use Rattle.rules.specs.Call.{callOf}
-use Rattle.rules.specs.Head.{Limits, Says, freshHead}
+use Rattle.rules.specs.Head.{Limits, Says, sized, freshHead}
 use Rattle.script.specs.declared.Line.{Line}
 use Rattle.script.specs.declared.Line.the-variants as L
 use Rattle.words.specs.Words.{isSome}
@@ -28,7 +28,7 @@ both false true h = absurd (let z : _≡_ {A = ℕ} 0 1 = cc in omega arith)
 both false false h = absurd (let z : _≡_ {A = ℕ} 0 1 = cc in omega arith)
 
 -- what `isFine` tests is that the numbers are within the limits of rules
-pub isFine-says : (n m l cap : ℕ) → Says (isFine n m l cap) (Limits (freshHead n m l cap))
+pub isFine-says : (n m l cap : ℕ) → Says (isFine n m l cap) (Limits (freshHead (sized n m l cap)))
 unfolding isFine
 isFine-says n m l cap =
     record {
@@ -63,7 +63,7 @@ isFine-says n m l cap =
 
 -- a heap within the limits, or bad
 abbrev pub First : Line → Type 0
-First (L.Heap n m l cap) = Limits (freshHead n m l cap)
+First (L.Heap n m l cap) = Limits (freshHead (sized n m l cap))
 First (L.Call op a b c) = ⊥
 First L.Batch = ⊥
 First L.Bad = Unit {0}

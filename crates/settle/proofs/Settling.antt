@@ -8,7 +8,7 @@ use native.Mathlib.Omega.{arith}
 use lib.ListN.{length, replicate, length-replicate}
 use lib.IntN.{ℤ}
 use Rattle.rules.specs.declared.Used.{Used}
-use Rattle.rules.specs.Head.{Sizes}
+use Rattle.rules.specs.declared.Sizes.{Sizes}
 use Rattle.rules.specs.Field.{variableOf}
 use Rattle.rules.specs.Rules.{Tables, Transaction, replay}
 use Rattle.rules.specs.Settle.{Heap, reclaim, replayed, settledBy, settled}

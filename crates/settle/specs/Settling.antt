@@ -7,7 +7,7 @@ use mathlib.Core.List.{List, map}
 use lib.ListN.{replicate}
 use lib.IntN.{ℤ}
 use Rattle.rules.specs.declared.Used.{Used}
-use Rattle.rules.specs.Head.{Sizes}
+use Rattle.rules.specs.declared.Sizes.{Sizes}
 use Rattle.rules.specs.Field.{variableOf}
 use Rattle.rules.specs.Settle.{Heap, settledBy}
 use Rattle.rules.specs.Step.{settledIf}

@@ -5,7 +5,7 @@ ghost use mathlib.Core.Option.{Option};
 ghost use Prim.Native.Nat.{ℕ, _<_};
 ghost use lib.ListN.{length};
 ghost use lib.IntN.{ℤ};
-ghost use Rattle.rules.specs.Head.{Sizes};
+ghost use Rattle.rules.specs.declared.Sizes.{Sizes};
 ghost use Rattle.rules.specs.Field.{variableOf};
 ghost use Rattle.rules.specs.Rules.{Tables, Transaction, apply, replay};
 ghost use Rattle.rules.specs.Settle.{Heap};

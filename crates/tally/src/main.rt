@@ -7,6 +7,7 @@ ghost use Rattle.tally.specs.Rows.{Sized};
 use libc::STDIN_FILENO;
 use reader::Read;
 use rules::Head;
+use rules::Sizes;
 use script::Line;
 
 // A script has at most so many bytes.
@@ -260,10 +261,7 @@ fn fresh(n: usize, m: usize, l: usize, cap: usize) -> Rows
     let fields = 2 * n;
     let entries = 2 * l;
     let made = heap::fresh(
-        n,
-        m,
-        l,
-        cap,
+        Sizes::plain(n, m, l, cap),
         &mut kinds[..fields],
         &mut values[..fields],
         &mut variables[..m],
@@ -387,8 +385,8 @@ fn tally(text: &[u8]) {
     let read = reader::read_line(text, 0, 0, 0);
     let line = read.line;
     if let Line::Heap(n, m, l, cap) = line {
-        if n <= Head::CELLS_MOST && m <= Head::VARIABLES_MOST {
-            if l <= Head::ENTRIES_MOST {
+        if n <= Sizes::CELLS_MOST && m <= Sizes::VARIABLES_MOST {
+            if l <= Sizes::ENTRIES_MOST {
                 start(text, read.next, fresh(n, m, l, cap));
                 return;
             }

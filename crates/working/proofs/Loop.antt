@@ -14,7 +14,7 @@ use borrow.Author.Tests.{leb-true}
 use Rattle.rules.specs.declared.Call.{Call}
 use Rattle.rules.specs.declared.Outcome.{Outcome}
 use Rattle.rules.specs.declared.Call.the-variants.{Settle}
-use Rattle.rules.specs.Head.{Sizes}
+use Rattle.rules.specs.declared.Sizes.{Sizes}
 use Rattle.rules.specs.Settle.{Heap, settled}
 use Rattle.rules.specs.Call.{Answer, callsOf, callsIn}
 use Rattle.rules.specs.Step.{settledIf, step, calls}
@@ -78,7 +78,7 @@ module _ {s : Sizes} {ks : List ℕ} {xs vs : List ℤ} {zs ms cs log work : Lis
       end-of a b d = omega arith
 
   pub end-as : Finished s h (lent ks′ xs′ vs zs′ ms′ cs′ log′ work′)
-      (outcome 0 (record { n = s .n; m = s .m; l = s .l; cap = s .cap; free = r .first; zct = r .used .zct; mrt = r .used .mrt }) (at .freed + r .freed))
+      (outcome 0 (record { sizes = s; free = r .first; zct = r .used .zct; mrt = r .used .mrt }) (at .freed + r .freed))
   unfolding settled
   end-as =
       let l : length log′ ≡ 2 * s .l = ap length (D .log-zero) ∙ length-replicate (length log) 0 ∙ S .log-long in

@@ -12,7 +12,7 @@ use lib.Seq.{getD-take, getD-drop}
 use borrow.Author.Tests.{le-ltb}
 use Rattle.rules.specs.declared.Call.{Call}
 use Rattle.rules.specs.declared.Call.the-variants.{New, Copy, Clear, Link, Put, Blank, Follow, Read, Same, Settle}
-use Rattle.rules.specs.Head.{Sizes}
+use Rattle.rules.specs.declared.Sizes.{Sizes}
 use Rattle.rules.specs.Settle.{Shape, Heap}
 use Rattle.rules.specs.Call.{answer, var, check, logs}
 use Rattle.rules.specs.Step.{Stepped, done, refused, settledIf, full, noneFree, doNew, doCall, doSettle, takeCell, room, run, step}

@@ -5,7 +5,7 @@ ghost use mathlib.Core.Option.{some};
 ghost use Prim.Native.Nat.{ℕ, _+_, _*_, _≤_};
 ghost use lib.ListN.{length};
 ghost use Rattle.rules.specs.declared.Call.{Call};
-ghost use Rattle.rules.specs.Head.{Sizes, sizesOf};
+ghost use Rattle.rules.specs.declared.Sizes.{Sizes};
 ghost use Rattle.rules.specs.Settle.{Heap};
 ghost use Rattle.rules.specs.Call.{callsIn};
 ghost use Rattle.rules.specs.Step.{step as stepped};
@@ -122,11 +122,11 @@ fn step(
     head: Head,
     at: State,
 ) -> Worked
-    requires { ⌜ Workable (sizesOf head) (now kinds) (now values) (now variables) (now zct) (now mrt) (now counts) (now log) (now work) at call ⌝ }
+    requires { ⌜ Workable (head .sizes) (now kinds) (now values) (now variables) (now zct) (now mrt) (now counts) (now log) (now work) at call ⌝ }
     ensures small { λ r. ⌜ r .state .freed ≤ at .freed + 1024 ⌝ }
-    ensures { λ r. ⌜ ((h : Heap) → Standing (sizesOf head) (now (kinds .entry)) (now (values .entry)) (now (variables .entry)) (now (zct .entry)) (now (mrt .entry)) (now (counts .entry)) (now (log .entry)) (now (work .entry)) at h → Answered (sizesOf head) (now (kinds .exit)) (now (values .exit)) (now (variables .exit)) (now (zct .exit)) (now (mrt .exit)) (now (counts .exit)) (now (log .exit)) (now (work .exit)) r (stepped (sizesOf head) call h)) ⌝ }
+    ensures { λ r. ⌜ ((h : Heap) → Standing (head .sizes) (now (kinds .entry)) (now (values .entry)) (now (variables .entry)) (now (zct .entry)) (now (mrt .entry)) (now (counts .entry)) (now (log .entry)) (now (work .entry)) at h → Answered (head .sizes) (now (kinds .exit)) (now (values .exit)) (now (variables .exit)) (now (zct .exit)) (now (mrt .exit)) (now (counts .exit)) (now (log .exit)) (now (work .exit)) r (stepped (head .sizes) call h)) ⌝ }
 {
-    let n = head.n;
+    let n = head.sizes.n;
     let no = check(call, kinds, values, variables, n);
     if no != 0 {
         return Worked {
@@ -140,8 +140,8 @@ fn step(
     let used = at.used;
     let freed = at.freed;
     let k = need(call, kinds, values, variables, n);
-    let make = settles_first(call, k, n, head.l, len, first);
-    let cap = head.cap as u32;
+    let make = settles_first(call, k, n, head.sizes.l, len, first);
+    let cap = head.sizes.cap as u32;
     let room = settle_if(
         make,
         kinds,
@@ -175,11 +175,11 @@ fn work_call(
     head: Head,
     at: State,
 ) -> Worked
-    requires { ⌜ Callable (sizesOf head) (now words) (now kinds) (now values) (now variables) (now zct) (now mrt) (now counts) (now log) (now work) at ⌝ }
+    requires { ⌜ Callable (head .sizes) (now words) (now kinds) (now values) (now variables) (now zct) (now mrt) (now counts) (now log) (now work) at ⌝ }
     ensures small { λ r. ⌜ r .state .freed ≤ at .freed + 1024 ⌝ }
-    ensures { λ r. ⌜ ((c : Call) (h : Heap) → callAt (head .m) (now (words .entry)) 0 ≡ some c → Standing (sizesOf head) (now (kinds .entry)) (now (values .entry)) (now (variables .entry)) (now (zct .entry)) (now (mrt .entry)) (now (counts .entry)) (now (log .entry)) (now (work .entry)) at h → Answered (sizesOf head) (now (kinds .exit)) (now (values .exit)) (now (variables .exit)) (now (zct .exit)) (now (mrt .exit)) (now (counts .exit)) (now (log .exit)) (now (work .exit)) r (stepped (sizesOf head) c h)) ⌝ }
+    ensures { λ r. ⌜ ((c : Call) (h : Heap) → callAt (head .sizes .m) (now (words .entry)) 0 ≡ some c → Standing (head .sizes) (now (kinds .entry)) (now (values .entry)) (now (variables .entry)) (now (zct .entry)) (now (mrt .entry)) (now (counts .entry)) (now (log .entry)) (now (work .entry)) at h → Answered (head .sizes) (now (kinds .exit)) (now (values .exit)) (now (variables .exit)) (now (zct .exit)) (now (mrt .exit)) (now (counts .exit)) (now (log .exit)) (now (work .exit)) r (stepped (head .sizes) c h)) ⌝ }
 {
-    let found = call_at(words, 0, head.m);
+    let found = call_at(words, 0, head.sizes.m);
     match found {
         Decoded::Is(call) => step(
             call,
@@ -218,9 +218,9 @@ fn work_turn(
     head: Head,
     at: State,
 ) -> State
-    requires { ⌜ Turnable (sizesOf head) (now calls) i (now kinds) (now values) (now variables) (now zct) (now mrt) (now counts) (now log) (now work) (now answers) at ⌝ }
+    requires { ⌜ Turnable (head .sizes) (now calls) i (now kinds) (now values) (now variables) (now zct) (now mrt) (now counts) (now log) (now work) (now answers) at ⌝ }
     ensures small { λ r. ⌜ r .freed ≤ at .freed + 1024 ⌝ }
-    ensures { λ r. ⌜ ((c : Call) (h : Heap) → callAt (head .m) (now (calls .entry)) (4 * i) ≡ some c → Standing (sizesOf head) (now (kinds .entry)) (now (values .entry)) (now (variables .entry)) (now (zct .entry)) (now (mrt .entry)) (now (counts .entry)) (now (log .entry)) (now (work .entry)) at h → Turned (sizesOf head) i (now (kinds .exit)) (now (values .exit)) (now (variables .exit)) (now (zct .exit)) (now (mrt .exit)) (now (counts .exit)) (now (log .exit)) (now (work .exit)) (now (answers .entry)) (now (answers .exit)) r (stepped (sizesOf head) c h)) ⌝ }
+    ensures { λ r. ⌜ ((c : Call) (h : Heap) → callAt (head .sizes .m) (now (calls .entry)) (4 * i) ≡ some c → Standing (head .sizes) (now (kinds .entry)) (now (values .entry)) (now (variables .entry)) (now (zct .entry)) (now (mrt .entry)) (now (counts .entry)) (now (log .entry)) (now (work .entry)) at h → Turned (head .sizes) i (now (kinds .exit)) (now (values .exit)) (now (variables .exit)) (now (zct .exit)) (now (mrt .exit)) (now (counts .exit)) (now (log .exit)) (now (work .exit)) (now (answers .entry)) (now (answers .exit)) r (stepped (head .sizes) c h)) ⌝ }
 {
     let p = 4 * i;
     let done = work_call(
@@ -259,9 +259,9 @@ fn work_calls(
     head: Head,
     at: State,
 ) -> State
-    requires { ⌜ Runnable (sizesOf head) (now calls) (now kinds) (now values) (now variables) (now zct) (now mrt) (now counts) (now log) (now work) (now answers) at ⌝ }
+    requires { ⌜ Runnable (head .sizes) (now calls) (now kinds) (now values) (now variables) (now zct) (now mrt) (now counts) (now log) (now work) (now answers) at ⌝ }
     ensures small { λ r. ⌜ r .freed ≤ 262144 ⌝ }
-    ensures { λ r. ⌜ ((ds : List Call) (h : Heap) → callsIn (head .m) (now (calls .entry)) ≡ some ds → Standing (sizesOf head) (now (kinds .entry)) (now (values .entry)) (now (variables .entry)) (now (zct .entry)) (now (mrt .entry)) (now (counts .entry)) (now (log .entry)) (now (work .entry)) at h → Ran (sizesOf head) ds h (now (kinds .exit)) (now (values .exit)) (now (variables .exit)) (now (zct .exit)) (now (mrt .exit)) (now (counts .exit)) (now (log .exit)) (now (work .exit)) (now (answers .entry)) (now (answers .exit)) r) ⌝ }
+    ensures { λ r. ⌜ ((ds : List Call) (h : Heap) → callsIn (head .sizes .m) (now (calls .entry)) ≡ some ds → Standing (head .sizes) (now (kinds .entry)) (now (values .entry)) (now (variables .entry)) (now (zct .entry)) (now (mrt .entry)) (now (counts .entry)) (now (log .entry)) (now (work .entry)) at h → Ran (head .sizes) ds h (now (kinds .exit)) (now (values .exit)) (now (variables .exit)) (now (zct .exit)) (now (mrt .exit)) (now (counts .exit)) (now (log .exit)) (now (work .exit)) (now (answers .entry)) (now (answers .exit)) r) ⌝ }
 {
     let mut state = at;
     let mut i = 0;
@@ -299,12 +299,13 @@ fn end_batch(
     head: Head,
     at: State,
 ) -> Outcome
-    requires { ⌜ Endable (sizesOf head) (now kinds) (now values) (now variables) (now zct) (now mrt) (now counts) (now log) (now work) at ⌝ }
-    ensures { λ r. ⌜ ((h : Heap) → Standing (sizesOf head) (now (kinds .entry)) (now (values .entry)) (now (variables .entry)) (now (zct .entry)) (now (mrt .entry)) (now (counts .entry)) (now (log .entry)) (now (work .entry)) at h → Finished (sizesOf head) h (lent (now (kinds .exit)) (now (values .exit)) (now (variables .entry)) (now (zct .exit)) (now (mrt .exit)) (now (counts .exit)) (now (log .exit)) (now (work .exit))) r) ⌝ }
+    requires { ⌜ Endable (head .sizes) (now kinds) (now values) (now variables) (now zct) (now mrt) (now counts) (now log) (now work) at ⌝ }
+    ensures { λ r. ⌜ ((h : Heap) → Standing (head .sizes) (now (kinds .entry)) (now (values .entry)) (now (variables .entry)) (now (zct .entry)) (now (mrt .entry)) (now (counts .entry)) (now (log .entry)) (now (work .entry)) at h → Finished (head .sizes) h (lent (now (kinds .exit)) (now (values .exit)) (now (variables .entry)) (now (zct .exit)) (now (mrt .exit)) (now (counts .exit)) (now (log .exit)) (now (work .exit))) r) ⌝ }
 {
     let freed = at.freed;
     let used = at.used;
-    let cap = head.cap as u32;
+    let sizes = head.sizes;
+    let cap = sizes.cap as u32;
     let r = settle(
         kinds,
         values,
@@ -321,10 +322,7 @@ fn end_batch(
     );
     let left = r.used;
     let next = Head {
-        n: head.n,
-        m: head.m,
-        l: head.l,
-        cap: head.cap,
+        sizes: sizes,
         free: r.first,
         zct: left.zct,
         mrt: left.mrt,
@@ -366,8 +364,8 @@ pub fn run_batch(
     answers: &mut [i32],
     head: Head,
 ) -> Outcome
-    requires { ⌜ Runnable (sizesOf head) (now calls) (now kinds) (now values) (now variables) (now zct) (now mrt) (now counts) (now log) (now work) (now answers) (startOf head) ⌝ }
-    ensures { λ r. ⌜ ((ds : List Call) (h : Heap) → callsIn (head .m) (now (calls .entry)) ≡ some ds → Standing (sizesOf head) (now (kinds .entry)) (now (values .entry)) (now (variables .entry)) (now (zct .entry)) (now (mrt .entry)) (now (counts .entry)) (now (log .entry)) (now (work .entry)) (startOf head) h → Batched (sizesOf head) ds h (lent (now (kinds .exit)) (now (values .exit)) (now (variables .exit)) (now (zct .exit)) (now (mrt .exit)) (now (counts .exit)) (now (log .exit)) (now (work .exit))) (now (answers .entry)) (now (answers .exit)) r) ⌝ }
+    requires { ⌜ Runnable (head .sizes) (now calls) (now kinds) (now values) (now variables) (now zct) (now mrt) (now counts) (now log) (now work) (now answers) (startOf head) ⌝ }
+    ensures { λ r. ⌜ ((ds : List Call) (h : Heap) → callsIn (head .sizes .m) (now (calls .entry)) ≡ some ds → Standing (head .sizes) (now (kinds .entry)) (now (values .entry)) (now (variables .entry)) (now (zct .entry)) (now (mrt .entry)) (now (counts .entry)) (now (log .entry)) (now (work .entry)) (startOf head) h → Batched (head .sizes) ds h (lent (now (kinds .exit)) (now (values .exit)) (now (variables .exit)) (now (zct .exit)) (now (mrt .exit)) (now (counts .exit)) (now (log .exit)) (now (work .exit))) (now (answers .entry)) (now (answers .exit)) r) ⌝ }
 {
     let at = start(head);
     let state = work_calls(

@@ -9,10 +9,10 @@ use Rattle.checks.proofs.compare.Statement.{statement}
 use Rattle.checks.proofs.compare.Tie as tie
 
 abbrev Inv-loop : tie.InvT-loop
-Inv-loop head kinds zct mrt counts work z₀ q₀ a₀ z q a = Gone (head .n) kinds zct (head .zct) mrt counts (head .mrt) (head .cap) work a z q
+Inv-loop head kinds zct mrt counts work z₀ q₀ a₀ z q a = Gone (head .sizes .n) kinds zct (head .zct) mrt counts (head .mrt) (head .sizes .cap) work a z q
 
 abbrev μ-loop : tie.MeasureT-loop
-μ-loop head kinds zct mrt counts work z₀ q₀ a₀ z q a = head .n - a
+μ-loop head kinds zct mrt counts work z₀ q₀ a₀ z q a = head .sizes .n - a
 
 loop-holds : tie.Need-loop-holds Inv-loop μ-loop
 loop-holds c = gone-none _ _ _ _ _ _ _ _ _

@@ -8,6 +8,9 @@ fresh-requires c κs = tt
 sized-requires : tie.Need-sized-requires
 sized-requires c κs = tt
 
+plain-requires : tie.Need-plain-requires
+plain-requires c κs = tt
+
 fresh-requires-2 : tie.Need-fresh-requires-2
 fresh-requires-2 c κs = tt
 
@@ -15,7 +18,7 @@ answer-requires : tie.Need-answer-requires
 answer-requires c κs = tt
 
 returns : tie.Need-returns
-returns c = no-fresh (c .before .before .before .before .fresh .ensures) (c .before .before .before .sized .ensures) (c .before .before .if1 .taken) (c .before .fresh2 .ensures) (c .answer .ensures)
+returns c = no-fresh (c .before .before .before .before .before .fresh .ensures) (c .before .before .before .before .sized .ensures) (c .before .before .before .if1 .taken) (c .before .before .plain .ensures) (c .before .fresh2 .ensures) (c .answer .ensures)
 
 fresh-rows-requires : tie.Need-fresh-rows-requires
 fresh-rows-requires c κs = fitting (c .before .before .before .before .before .before .before .before .before .before .fresh .ensures) (c .before .before .before .before .before .before .before .before .before .sized .ensures) (c .before .before .before .before .before .before .before .before .if1 .left)
@@ -56,6 +59,7 @@ fresh-spec =
     (tie.spec
     fresh-requires
     sized-requires
+    plain-requires
     fresh-requires-2
     answer-requires
     returns

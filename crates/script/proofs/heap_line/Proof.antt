@@ -3,7 +3,7 @@ use Prim.Native.Nat.{ℕ}
 use mathlib.Core.Path.{sym, ap, _∙_}
 use mathlib.Core.List.{List}
 use mathlib.Core.Bool.{Bool, cond}
-use Rattle.rules.specs.Head.{Says, Limits, freshHead}
+use Rattle.rules.specs.Head.{Says, Limits, sized, freshHead}
 use Rattle.script.specs.declared.Line.the-variants.{Heap, Bad}
 use Rattle.script.specs.Text.{fieldsOf}
 use Rattle.script.specs.Number.{numberOf}
@@ -36,6 +36,9 @@ field-requires-4 c κs = search needs
 number-requires-4 : tie.Need-number-requires-4
 number-requires-4 c κs = search needs
 
+plain-requires : tie.Need-plain-requires
+plain-requires c κs = search needs
+
 fresh-requires : tie.Need-fresh-requires
 fresh-requires c κs = search needs
 
@@ -44,25 +47,25 @@ within-requires c κs = search needs
 
 returns : tie.Need-returns
 returns c =
-    let fs = fieldsOf (c .before .before .before .before .before .before .before .before .before .before .before .before .args .line .now) in
-    let n = c .before .before .before .before .before .before .before .before .before .number .result in
-    let m = c .before .before .before .before .before .before .before .number2 .result in
-    let l = c .before .before .before .before .before .number3 .result in
-    let p = c .before .before .before .number4 .result in
+    let fs = fieldsOf (c .before .before .before .before .before .before .before .before .before .before .before .before .before .args .line .now) in
+    let n = c .before .before .before .before .before .before .before .before .before .before .number .result in
+    let m = c .before .before .before .before .before .before .before .before .number2 .result in
+    let l = c .before .before .before .before .before .before .number3 .result in
+    let p = c .before .before .before .before .number4 .result in
     let r = c .before .within .result in
-    let w : Says r (Limits (freshHead n m l p)) = rw (c .before .before .fresh .ensures) at (c .before .within .ensures) in
-    sym (heap-says fs n m l p r (c .before .before .before .before .before .before .before .before .before .number .ensures ∙ ap (λ (l : List ℕ). capped (numberOf l)) (c .before .before .before .before .before .before .before .before .before .before .field .ensures)) (c .before .before .before .before .before .before .before .number2 .ensures ∙ ap (λ (l : List ℕ). capped (numberOf l)) (c .before .before .before .before .before .before .before .before .field2 .ensures)) (c .before .before .before .before .before .number3 .ensures ∙ ap (λ (l : List ℕ). capped (numberOf l)) (c .before .before .before .before .before .before .field3 .ensures)) (c .before .before .before .number4 .ensures ∙ ap (λ (l : List ℕ). capped (numberOf l)) (c .before .before .before .before .field4 .ensures)) w ∙ ap (λ (q : Bool). cond q (Heap n m l p) Bad) (c .if1 .taken))
+    let w : Says r (Limits (freshHead (sized n m l p))) = rw (c .before .before .fresh .ensures, c .before .before .before .plain .ensures) at (c .before .within .ensures) in
+    sym (heap-says fs n m l p r (c .before .before .before .before .before .before .before .before .before .before .number .ensures ∙ ap (λ (l : List ℕ). capped (numberOf l)) (c .before .before .before .before .before .before .before .before .before .before .before .field .ensures)) (c .before .before .before .before .before .before .before .before .number2 .ensures ∙ ap (λ (l : List ℕ). capped (numberOf l)) (c .before .before .before .before .before .before .before .before .before .field2 .ensures)) (c .before .before .before .before .before .before .number3 .ensures ∙ ap (λ (l : List ℕ). capped (numberOf l)) (c .before .before .before .before .before .before .before .field3 .ensures)) (c .before .before .before .before .number4 .ensures ∙ ap (λ (l : List ℕ). capped (numberOf l)) (c .before .before .before .before .before .field4 .ensures)) w ∙ ap (λ (q : Bool). cond q (Heap n m l p) Bad) (c .if1 .taken))
 
 returns-2 : tie.Need-returns-2
 returns-2 c =
-    let fs = fieldsOf (c .before .before .before .before .before .before .before .before .before .before .before .before .args .line .now) in
-    let n = c .before .before .before .before .before .before .before .before .before .number .result in
-    let m = c .before .before .before .before .before .before .before .number2 .result in
-    let l = c .before .before .before .before .before .number3 .result in
-    let p = c .before .before .before .number4 .result in
+    let fs = fieldsOf (c .before .before .before .before .before .before .before .before .before .before .before .before .before .args .line .now) in
+    let n = c .before .before .before .before .before .before .before .before .before .before .number .result in
+    let m = c .before .before .before .before .before .before .before .before .number2 .result in
+    let l = c .before .before .before .before .before .before .number3 .result in
+    let p = c .before .before .before .before .number4 .result in
     let r = c .before .within .result in
-    let w : Says r (Limits (freshHead n m l p)) = rw (c .before .before .fresh .ensures) at (c .before .within .ensures) in
-    sym (heap-says fs n m l p r (c .before .before .before .before .before .before .before .before .before .number .ensures ∙ ap (λ (l : List ℕ). capped (numberOf l)) (c .before .before .before .before .before .before .before .before .before .before .field .ensures)) (c .before .before .before .before .before .before .before .number2 .ensures ∙ ap (λ (l : List ℕ). capped (numberOf l)) (c .before .before .before .before .before .before .before .before .field2 .ensures)) (c .before .before .before .before .before .number3 .ensures ∙ ap (λ (l : List ℕ). capped (numberOf l)) (c .before .before .before .before .before .before .field3 .ensures)) (c .before .before .before .number4 .ensures ∙ ap (λ (l : List ℕ). capped (numberOf l)) (c .before .before .before .before .field4 .ensures)) w ∙ ap (λ (q : Bool). cond q (Heap n m l p) Bad) (c .if1 .left))
+    let w : Says r (Limits (freshHead (sized n m l p))) = rw (c .before .before .fresh .ensures, c .before .before .before .plain .ensures) at (c .before .within .ensures) in
+    sym (heap-says fs n m l p r (c .before .before .before .before .before .before .before .before .before .before .number .ensures ∙ ap (λ (l : List ℕ). capped (numberOf l)) (c .before .before .before .before .before .before .before .before .before .before .before .field .ensures)) (c .before .before .before .before .before .before .before .before .number2 .ensures ∙ ap (λ (l : List ℕ). capped (numberOf l)) (c .before .before .before .before .before .before .before .before .before .field2 .ensures)) (c .before .before .before .before .before .before .number3 .ensures ∙ ap (λ (l : List ℕ). capped (numberOf l)) (c .before .before .before .before .before .before .before .field3 .ensures)) (c .before .before .before .before .number4 .ensures ∙ ap (λ (l : List ℕ). capped (numberOf l)) (c .before .before .before .before .before .field4 .ensures)) w ∙ ap (λ (q : Bool). cond q (Heap n m l p) Bad) (c .if1 .left))
 
 pub heap-line-spec : {M : Type 1} → statement M
 heap-line-spec =
@@ -76,6 +79,7 @@ heap-line-spec =
     number-requires-3
     field-requires-4
     number-requires-4
+    plain-requires
     fresh-requires
     within-requires
     returns

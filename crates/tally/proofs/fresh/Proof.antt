@@ -12,6 +12,9 @@ mul-fields c = search needs
 mul-entries : tie.Need-mul-entries
 mul-entries c = search needs
 
+plain-requires : tie.Need-plain-requires
+plain-requires c κs = tt
+
 array-borrow-prefix-kinds : tie.Need-array-borrow-prefix-kinds
 array-borrow-prefix-kinds c = search needs
 
@@ -72,6 +75,7 @@ fresh-spec =
     (tie.spec
     mul-fields
     mul-entries
+    plain-requires
     array-borrow-prefix-kinds
     slice-aggregate-fresh
     array-borrow-prefix-values

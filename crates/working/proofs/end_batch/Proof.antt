@@ -1,6 +1,5 @@
 use native.Mathlib.Omega.{arith}
 use mathlib.Core.Path.{refl}
-use Rattle.rules.specs.Head.{sizesOf}
 use Rattle.settle.proofs.Settling.{settleable}
 use Rattle.working.proofs.Loop.{end-few, end-as}
 use borrow.Author.Needs.{needs}
@@ -11,10 +10,10 @@ cast-cap : tie.Need-cast-cap
 cast-cap c = search needs
 
 settle-requires : tie.Need-settle-requires
-settle-requires c κs = settleable (c .before .before .before .before .before .before .before .before .before .before .before .before .before .before .before .pre .standing .whole)
+settle-requires c κs = settleable (c .before .before .before .before .before .before .before .before .before .before .before .before .before .before .before .before .pre .standing .whole)
 
-add-t31 : tie.Need-add-t31
-add-t31 c = let K = c .before .before .before .before .before .before .before .before .before .before .before .before .before .before .before .before .before .before .before .before .before .before .before .before .before .before .before .before .before .before .before .pre in let S = K .standing in let f = K .few in let e = end-few S (c .before .before .before .before .before .before .before .before .before .before .before .before .before .before .before .settle .ensures (sizesOf (c .before .before .before .before .before .before .before .before .before .before .before .before .before .before .before .before .before .before .before .before .before .before .before .before .before .before .before .before .before .before .before .args .head)) _ _ _ _ refl refl (S .whole) (S .whole .variables-are)) (K .fine) in omega arith
+add-t32 : tie.Need-add-t32
+add-t32 c = let K = c .before .before .before .before .before .before .before .before .before .before .before .before .before .before .before .before .before .before .before .before .before .before .before .before .before .before .before .before .before .before .before .before .pre in let S = K .standing in let f = K .few in let e = end-few S (c .before .before .before .before .before .before .before .before .before .before .before .before .before .before .before .settle .ensures (c .before .before .before .before .before .before .before .before .before .before .before .before .before .before .before .before .before .before .before .before .before .before .before .before .before .before .before .before .before .before .before .before .args .head .sizes) _ _ _ _ refl refl (S .whole) (S .whole .variables-are)) (K .fine) in omega arith
 
 same-length : tie.Need-same-length
 same-length c = c .before .before .before .before .before .before .before .before .before .before .before .before .before .before .kinds .given
@@ -38,7 +37,7 @@ same-length-7 : tie.Need-same-length-7
 same-length-7 c = c .before .before .before .work .given
 
 returns : tie.Need-returns
-returns c = λ h S. end-as S (c .before .before .before .before .before .before .before .before .before .before .before .before .before .before .before .settle .ensures (sizesOf (c .before .before .before .before .before .before .before .before .before .before .before .before .before .before .before .before .before .before .before .before .before .before .before .before .before .before .before .before .before .before .before .args .head)) _ _ _ _ refl refl (S .whole) (S .whole .variables-are))
+returns c = λ h S. end-as S (c .before .before .before .before .before .before .before .before .before .before .before .before .before .before .before .settle .ensures (c .before .before .before .before .before .before .before .before .before .before .before .before .before .before .before .before .before .before .before .before .before .before .before .before .before .before .before .before .before .before .before .before .args .head .sizes) _ _ _ _ refl refl (S .whole) (S .whole .variables-are))
 
 pub end-batch-spec : {M : Type 1} → statement M
 end-batch-spec =
@@ -46,7 +45,7 @@ end-batch-spec =
     (tie.spec
     cast-cap
     settle-requires
-    add-t31
+    add-t32
     same-length
     same-length-2
     same-length-3

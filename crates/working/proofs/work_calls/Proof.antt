@@ -2,14 +2,13 @@ use Prim.Native.Nat.{_*_, _-_}
 use native.Mathlib.Omega.{arith}
 use mathlib.Core.Path.{sym, _∙_}
 use lib.ListN.{length}
-use Rattle.rules.specs.Head.{sizesOf}
 use Rattle.working.proofs.Loop.{Going, long-of, begun, now-at, small-i, answers-same, turnable, again, finish}
 use Rattle.working.proofs.work_calls.Statement.{statement}
 use Rattle.working.proofs.work_calls.Tie as tie
 
 abbrev Inv-loop : tie.InvT-loop
 Inv-loop calls kinds₀ values₀ variables₀ zct₀ mrt₀ counts₀ log₀ work₀ answers₀ head state₀ i₀ kinds values variables zct mrt counts log work answers state i =
-    Going (sizesOf head) calls kinds₀ values₀ variables₀ zct₀ mrt₀ counts₀ log₀ work₀ answers₀ state₀ kinds values variables zct mrt counts log work answers state i
+    Going (head .sizes) calls kinds₀ values₀ variables₀ zct₀ mrt₀ counts₀ log₀ work₀ answers₀ state₀ kinds values variables zct mrt counts log work answers state i
 
 abbrev μ-loop : tie.MeasureT-loop
 μ-loop calls kinds₀ values₀ variables₀ zct₀ mrt₀ counts₀ log₀ work₀ answers₀ head state₀ i₀ kinds values variables zct mrt counts log work answers state i = length calls - 4 * i

@@ -5,7 +5,6 @@ use mir.Val.{toZ, ofZ}
 use Prim.Native.Nat.{_*_}
 use lib.ListN.{length-set}
 use lib.IntN.{pos}
-use Rattle.rules.specs.Head.{sizesOf}
 use Rattle.working.proofs.Steps.{turn-call, turn-long, two-set, two-long, status-small}
 use borrow.Author.Needs.{needs}
 use Rattle.working.proofs.work_turn.Statement.{statement}
@@ -33,7 +32,7 @@ mul-q : tie.Need-mul-q
 mul-q c = let K = c .before .before .before .before .before .before .before .before .before .before .before .before .before .before .before .before .before .before .before .before .before .before .before .before .before .before .before .before .before .before .pre in let l = K .long in let m = K .most in omega arith
 
 value-of-requires : tie.Need-value-of-requires
-value-of-requires c κs = let K = c .before .before .before .before .before .before .before .before .before .before .before .before .before .before .before .before .before .before .before .before .before .before .before .before .before .before .before .before .before .before .pre in rw (c .before .before .before .before .before .before .before .before .before .before .before .before .before .before .work-call .ensures .1 (K .call) (K .workable .heap) (turn-call (c .before .before .before .before .before .before .before .before .before .before .before .before .before .before .before .before .before .before .before .before .before .before .before .before .before .before .before .before .before .before .args .calls .now) (c .before .before .before .before .before .before .before .before .before .before .before .before .before .before .before .before .before .before .before .before .before .before .before .before .before .before .before .before .before .before .args .i) (K .long) _ (K .is)) (K .workable .standing) .status) (omega (arith, status-small (sizesOf (c .before .before .before .before .before .before .before .before .before .before .before .before .before .before .before .before .before .before .before .before .before .before .before .before .before .before .before .before .before .before .args .head)) (K .call) (K .workable .heap)))
+value-of-requires c κs = let K = c .before .before .before .before .before .before .before .before .before .before .before .before .before .before .before .before .before .before .before .before .before .before .before .before .before .before .before .before .before .before .pre in rw (c .before .before .before .before .before .before .before .before .before .before .before .before .before .before .work-call .ensures .1 (K .call) (K .workable .heap) (turn-call (c .before .before .before .before .before .before .before .before .before .before .before .before .before .before .before .before .before .before .before .before .before .before .before .before .before .before .before .before .before .before .args .calls .now) (c .before .before .before .before .before .before .before .before .before .before .before .before .before .before .before .before .before .before .before .before .before .before .before .before .before .before .before .before .before .before .args .i) (K .long) _ (K .is)) (K .workable .standing) .status) (omega (arith, status-small (c .before .before .before .before .before .before .before .before .before .before .before .before .before .before .before .before .before .before .before .before .before .before .before .before .before .before .before .before .before .before .args .head .sizes) (K .call) (K .workable .heap)))
 
 mul-status : tie.Need-mul-status
 mul-status c = let K = c .before .before .before .before .before .before .before .before .before .before .before .before .before .before .before .before .before .before .before .before .before .before .before .before .before .before .before .before .before .before .before .pre in let l = K .long in let m = K .most in omega arith
