@@ -4,6 +4,28 @@ use borrow.Author.Needs.{needs}
 use Rattle.cells.proofs.fresh_rows.Statement.{statement}
 use Rattle.cells.proofs.fresh_rows.Tie as tie
 
+-- places, looked back at from later ones
+abbrev to-after-clear4 : tie.After-slice-known12 → tie.After-clear4
+to-after-clear4 c = search needs
+
+abbrev to-after-clear3 : tie.After-clear4 → tie.After-clear3
+to-after-clear3 c = search needs
+
+abbrev to-after-clear2 : tie.After-clear3 → tie.After-clear2
+to-after-clear2 c = search needs
+
+abbrev to-after-clear : tie.After-clear2 → tie.After-clear
+to-after-clear c = search needs
+
+abbrev to-after-fill-nothing : tie.After-clear → tie.After-fill-nothing
+to-after-fill-nothing c = search needs
+
+abbrev to-after-fresh-cells : tie.After-fill-nothing → tie.After-fresh-cells
+to-after-fresh-cells c = search needs
+
+abbrev to-start : tie.After-fresh-cells → tie.Start
+to-start c = search needs
+
 fresh-cells-requires : tie.Need-fresh-cells-requires
 fresh-cells-requires c κs = search needs
 
@@ -51,16 +73,23 @@ same-length-8 c = search needs
 
 returns : tie.Need-returns
 returns c =
-    let p = c .before .before .before .before .before .before .before .before .before .before .before .before .before .before .before .before .before .before .before .before .before .before .before .before .before .before .before .before .before .before .before .before .before .before .before .pre in
-    let f = c .before .before .before .before .before .before .before .before .before .before .before .before .before .before .before .before .before .before .before .before .before .before .before .before .before .before .fresh-cells .ensures in
+    let after-clear4 = to-after-clear4 c in
+    let after-clear3 = to-after-clear3 after-clear4 in
+    let after-clear2 = to-after-clear2 after-clear3 in
+    let after-clear = to-after-clear after-clear2 in
+    let after-fill-nothing = to-after-fill-nothing after-clear in
+    let after-fresh-cells = to-after-fresh-cells after-fill-nothing in
+    let start = to-start after-fresh-cells in
+    let p = start .pre in
+    let f = after-fresh-cells .fresh-cells .ensures in
     rows-fresh
     (f .0)
     (f .1)
-    (c .before .before .before .before .before .before .before .before .before .before .before .before .before .before .before .before .before .before .before .before .before .fill-nothing .ensures)
-    (c .before .before .before .before .before .before .before .before .before .before .before .before .before .before .before .before .before .before .clear .ensures)
-    (c .before .before .before .before .before .before .before .before .before .before .before .before .before .before .clear2 .ensures)
-    (c .before .before .before .before .before .before .before .before .before .before .clear3 .ensures)
-    (c .before .before .before .before .before .before .clear4 .ensures)
+    (after-fill-nothing .fill-nothing .ensures)
+    (after-clear .clear .ensures)
+    (after-clear2 .clear2 .ensures)
+    (after-clear3 .clear3 .ensures)
+    (after-clear4 .clear4 .ensures)
     (c .before .before .clear5 .ensures)
     (p .zct-long)
     (p .mrt-long)

@@ -145,7 +145,8 @@ returns-3 c =
 returns-4 : tie.Need-returns-4
 unfolding callOf
 returns-4 c =
-    let s = c .before .before .before .before .before .before in
+    let start : tie.Start = search needs in
+    let s = start in
     rw (op-is 4 (s .fits .op) (c .before .before .before .before .before .match .keys4))
     (given-are (c .given4 .ensures) (same-three (isBelow _) (isBelow 2) (isBelow _) (s .fits .a) (s .fits .b) (s .fits .c) (c .before .before .before .before .field-and-variable .ensures)) (ap-three Link (same number (s .fits .a) (c .before .before .before .address5 .ensures)) (same number (s .fits .b) (c .before .before .address6 .ensures)) (same number (s .fits .c) (c .before .address7 .ensures))))
 
@@ -166,7 +167,8 @@ returns-6 c =
 returns-7 : tie.Need-returns-7
 unfolding callOf
 returns-7 c =
-    let s = c .before .before .before .before .before .before in
+    let start : tie.Start = search needs in
+    let s = start in
     rw (op-is 7 (s .fits .op) (c .before .before .before .before .before .match .keys7))
     (given-are (c .given7 .ensures) (same-three (isBelow _) (isBelow 2) (isBelow _) (s .fits .a) (s .fits .b) (s .fits .c) (c .before .before .before .before .field-and-variable2 .ensures)) (ap-three Follow (same number (s .fits .a) (c .before .before .before .address12 .ensures)) (same number (s .fits .b) (c .before .before .address13 .ensures)) (same number (s .fits .c) (c .before .address14 .ensures))))
 
