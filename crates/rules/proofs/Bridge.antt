@@ -18,9 +18,10 @@ use Rattle.rules.specs.Field.{kindOf, valueOf, variableOf, addressOf}
 use Rattle.rules.specs.Table.{Entry, has, countIn, addresses, counts, pad, Ascending}
 use Rattle.rules.specs.Rules.{Tables, replay}
 use Rattle.rules.specs.Settle.{Heap, holds, pick, place, field}
-use Rattle.rules.specs.Rows.{rowsOf, headOf, Kept}
+use Rattle.rules.specs.Rows.{rowsOf, headOf}
+use Rattle.rules.specs.Whole.{Kept}
 use Rattle.rules.specs.Sound.{Live, Mark, Word, Words, Variables, TableRow, NotIn, Ranged, kind, word, mark, pointers, heldAmong, times, FreeList, Sound}
-use Rattle.rules.proofs.Fine.{Fine}
+use Rattle.rules.specs.Head.{Limits}
 use Rattle.rules.proofs.Invariant.{refs, live, view, countOf, okOf, Counted, Good, Frees, Fitting, Done, Ended}
 use Rattle.rules.proofs.Reclaim.{pick-some, pick-none}
 use Rattle.rules.proofs.Positions.{getD-any, has-at, at-has, not-has, all-at, at-all, up-at, at-up, count-at, at-count, not-counted, pad-at, pad-zero, refs-pointers, holds-held, holds-at, at-holds, kind-at, kind-nothing, inside, live-at, at-live, dead-at, chain-path, path-chain, off-path, on-chain, word-of, of-word, half, no-refs, some-refs}
@@ -212,7 +213,7 @@ module _ (n cap : ℕ) (cap3 : 3 ≤ cap) (fs : List Field) (vs : List (Option �
   ranged-is : Ranged (pad n (counts (t .mrt))) (length (t .mrt)) cap
   ranged-is j h = rw (counts-pad j h) (ranged-at j h)
 
-pub ended-sound : (s : Sizes) → Fine s → (h : Heap) → Ended s h → Sound (headOf s h) (rowsOf s h)
+pub ended-sound : (s : Sizes) → Limits s → (h : Heap) → Ended s h → Sound (headOf s h) (rowsOf s h)
 unfolding headOf rowsOf replay
 ended-sound s f h e =
     let i = e .inv in
@@ -241,7 +242,7 @@ ended-sound s f h e =
 
 -- ---- from the rows to the invariant
 
-module _ (s : Sizes) (f : Fine s) (h : Heap) (plain : Plain s h) (sound : Sound (headOf s h) (rowsOf s h)) where
+module _ (s : Sizes) (f : Limits s) (h : Heap) (plain : Plain s h) (sound : Sound (headOf s h) (rowsOf s h)) where
   abbrev fs : List Field
   fs = h .shape .fields
 
@@ -409,7 +410,7 @@ module _ (s : Sizes) (f : Fine s) (h : Heap) (plain : Plain s h) (sound : Sound 
           let w : heldAmong (s .n) (map variableOf vs) a (length vs) ≡ true = rw (q, length-map vs variableOf) at (sound .held (k .index) (k .within)) in
           absurd (true≢false (sym w ∙ sym (holds-held (s .n) vs a c) ∙ p .1))
 
-pub sound-ended : (s : Sizes) → Fine s → (h : Heap) → Plain s h → Sound (headOf s h) (rowsOf s h) → Ended s h
+pub sound-ended : (s : Sizes) → Limits s → (h : Heap) → Plain s h → Sound (headOf s h) (rowsOf s h) → Ended s h
 unfolding replay
 sound-ended s f h p d =
     record {

@@ -15,7 +15,7 @@ use Rattle.rules.specs.declared.Field.the-variants.{Nothing, Figure, Cel
 use Rattle.rules.specs.Table.{has, countIn}
 use Rattle.rules.specs.Rules.{Tables, Transaction, apply, replay, leaveZct}
 use Rattle.rules.specs.Settle.{Heap, drops, holds, pick, onPick, place, field, store, freeCell, reclaim}
-use Rattle.rules.specs.Rows.{Kept}
+use Rattle.rules.specs.Whole.{Kept}
 use Rattle.rules.proofs.Invariant.{hit, refs, used, live, view, count, okOf, Counted, Good, Done, Fitting, Small}
 use Rattle.rules.proofs.Tables.{eqb-self, remove-own, remove-other}
 use Rattle.rules.proofs.Sorted.{leaveZct-kept, replay-kept, small-append}
