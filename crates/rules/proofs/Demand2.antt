@@ -27,14 +27,14 @@ use Rattle.rules.specs.Demands.{handedOut, freeCells, newWords, Demand2}
 use Rattle.rules.proofs.Invariant.{Inv}
 use Rattle.rules.proofs.Fine.{fine-of}
 use Rattle.rules.proofs.Tests.{sound-true, sound-false}
-use Rattle.rules.proofs.Reclaim.{lives}
+use Rattle.rules.proofs.Cells.{lives}
 use Rattle.rules.proofs.Calls.{AllFit, calls-in-fit}
 use Rattle.rules.proofs.Step.{settled-done, step-inv}
-use Rattle.rules.proofs.Facts as facts
 use Rattle.rules.proofs.Roundtrip.{rows-of-heap}
 use Rattle.rules.proofs.Whole.{twice}
 use Rattle.rules.proofs.Entry.{entry-ended, exit-ended, exit-sized, exit-sound}
 use Rattle.rules.proofs.Demand1.{Taken, taken, same-calls, answers-long, audit-0, audit-4, demand-1}
+use Rattle.rules.proofs.Facts as facts
 
 -- ---- free cells and cells in use
 
