@@ -66,9 +66,7 @@ rows-alike s h k e =
       values-long = lengths-alike (h .shape .fields) (k .shape .fields) f;
       values = values-alike (h .shape .fields) (k .shape .fields) f;
       variables = ap (λ (t : Heap). rowsOf s t .variables) e;
-      zct = ap (λ (t : Heap). rowsOf s t .zct) e;
-      mrt = ap (λ (t : Heap). rowsOf s t .mrt) e;
-      counts = ap (λ (t : Heap). rowsOf s t .counts) e;
+      tables = ap (λ (t : Heap). rowsOf s t .tables) e;
       log = ap (λ (t : Heap). rowsOf s t .log) e;
       work = refl;
     }

@@ -92,11 +92,11 @@ module _ {h : Head} {r : Lent} (Z : Sized h r) (S : Sound h r) (cs : List Call) 
 
   -- some variable holds each ZCT cell afterwards
   all-held : (row : List ℤ) (j : ℕ) → j < accepted h r cs row .outcome .head .zct
-      → heldAmong (h .sizes .n) (accepted h r cs row .rows .variables) (getD (accepted h r cs row .rows .zct) j 0) (h .sizes .m) ≡ true
+      → heldAmong (h .sizes .n) (accepted h r cs row .rows .variables) (getD (accepted h r cs row .rows .tables .zct) j 0) (h .sizes .m) ≡ true
   all-held row j k =
       let e = exit-sized Z S cs F row .lengths .for-variables in
-      subst (λ (v : ℕ). heldAmong (h .sizes .n) (accepted h r cs row .rows .variables) (getD (accepted h r cs row .rows .zct) j 0) v ≡ true) (e ∙ same-m row)
-      (subst (λ (n : ℕ). heldAmong n (accepted h r cs row .rows .variables) (getD (accepted h r cs row .rows .zct) j 0) (length (accepted h r cs row .rows .variables)) ≡ true) (same-n row) (exit-sound Z S cs F row .held j k))
+      subst (λ (v : ℕ). heldAmong (h .sizes .n) (accepted h r cs row .rows .variables) (getD (accepted h r cs row .rows .tables .zct) j 0) v ≡ true) (e ∙ same-m row)
+      (subst (λ (n : ℕ). heldAmong n (accepted h r cs row .rows .variables) (getD (accepted h r cs row .rows .tables .zct) j 0) (length (accepted h r cs row .rows .variables)) ≡ true) (same-n row) (exit-sound Z S cs F row .held j k))
     where
       same-n : (row : List ℤ) → accepted h r cs row .outcome .head .sizes .n ≡ h .sizes .n
       same-n row = unfold accepted headOf in refl

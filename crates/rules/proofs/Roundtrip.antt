@@ -144,18 +144,18 @@ pad-again n k row e h Z =
         (λ i j. let m = length-replicate {A = ℕ} (n - k) 0 in rw (getD-drop k row i 0, getD-replicate {A = ℕ} (n - k) i 0 0 (omega arith)) (sym (Z (k + i) (omega arith) (omega arith))))
 
 module _ {h : Head} {r : Lent} (Z : Sized h r) where
-  zct-long : length (take (h .zct) (r .zct)) ≡ h .zct
-  zct-long = let l = Z .lengths in let m = Z .limits in length-take-le (h .zct) (r .zct) (omega arith)
+  zct-long : length (take (h .zct) (r .tables .zct)) ≡ h .zct
+  zct-long = let l = Z .lengths in let m = Z .limits in length-take-le (h .zct) (r .tables .zct) (omega arith)
 
-  mrt-long : length (take (h .mrt) (r .mrt)) ≡ h .mrt
-  mrt-long = let l = Z .lengths in let m = Z .limits in length-take-le (h .mrt) (r .mrt) (omega arith)
+  mrt-long : length (take (h .mrt) (r .tables .mrt)) ≡ h .mrt
+  mrt-long = let l = Z .lengths in let m = Z .limits in length-take-le (h .mrt) (r .tables .mrt) (omega arith)
 
-  counts-long : length (take (h .mrt) (r .counts)) ≡ h .mrt
-  counts-long = let l = Z .lengths in let m = Z .limits in length-take-le (h .mrt) (r .counts) (omega arith)
+  counts-long : length (take (h .mrt) (r .tables .counts)) ≡ h .mrt
+  counts-long = let l = Z .lengths in let m = Z .limits in length-take-le (h .mrt) (r .tables .counts) (omega arith)
 
   pub head-of-heap : headOf (h .sizes) (heapOf h r) ≡ h
   unfolding headOf heapOf
-  head-of-heap = rw (zct-long, length-entries (take (h .mrt) (r .mrt)) (take (h .mrt) (r .counts)) (mrt-long ∙ sym counts-long), mrt-long)
+  head-of-heap = rw (zct-long, length-entries (take (h .mrt) (r .tables .mrt)) (take (h .mrt) (r .tables .counts)) (mrt-long ∙ sym counts-long), mrt-long)
 
   module _ (S : Sound h r) where
     fits : Fits (r .kinds) (r .values)
@@ -175,11 +175,11 @@ module _ {h : Head} {r : Lent} (Z : Sized h r) where
           kinds-again (r .kinds) (r .values) (omega arith) fits,
           values-again (r .kinds) (r .values) (omega arith) fits,
           variables-again (h .sizes .n) (r .kinds) (r .variables) (S .variables),
-          pad-again (h .sizes .n) (h .zct) (r .zct) (l .for-zct) (m .zct-most) (S .zct-zeros),
-          addresses-again (take (h .mrt) (r .mrt)) (take (h .mrt) (r .counts)) e,
-          counts-again (take (h .mrt) (r .mrt)) (take (h .mrt) (r .counts)) e,
-          pad-again (h .sizes .n) (h .mrt) (r .mrt) (l .for-mrt) (m .mrt-most) (S .mrt-zeros),
-          pad-again (h .sizes .n) (h .mrt) (r .counts) (l .for-counts) (m .mrt-most) (S .counts-zeros),
+          pad-again (h .sizes .n) (h .zct) (r .tables .zct) (l .for-zct) (m .zct-most) (S .zct-zeros),
+          addresses-again (take (h .mrt) (r .tables .mrt)) (take (h .mrt) (r .tables .counts)) e,
+          counts-again (take (h .mrt) (r .tables .mrt)) (take (h .mrt) (r .tables .counts)) e,
+          pad-again (h .sizes .n) (h .mrt) (r .tables .mrt) (l .for-mrt) (m .mrt-most) (S .mrt-zeros),
+          pad-again (h .sizes .n) (h .mrt) (r .tables .counts) (l .for-counts) (m .mrt-most) (S .counts-zeros),
           pad-again (2 * h .sizes .l) 0 (r .log) (l .for-log) zero-le (S .log-zero),
         )
 

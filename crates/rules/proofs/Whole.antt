@@ -125,7 +125,7 @@ abbrev pub usedOf : Heap → Used
 usedOf h = record { zct = length (h .tables .zct); mrt = length (h .tables .mrt) }
 
 pub whole-of : (s : Sizes) → Fine s → (h : Heap) → Inv s h → (work : List ℕ) → length work ≡ s .n
-    → Whole (s .n) (s .cap) (rowsOf s h .kinds) (rowsOf s h .values) (rowsOf s h .variables) (rowsOf s h .zct) (rowsOf s h .mrt) (rowsOf s h .counts) (rowsOf s h .log) work (length (h .log)) (h .first) (usedOf h) h
+    → Whole (s .n) (s .cap) (rowsOf s h .kinds) (rowsOf s h .values) (rowsOf s h .variables) (rowsOf s h .tables .zct) (rowsOf s h .tables .mrt) (rowsOf s h .tables .counts) (rowsOf s h .log) work (length (h .log)) (h .first) (usedOf h) h
 unfolding rowsOf
 whole-of s F h I work e =
     record {
@@ -168,7 +168,7 @@ used-at Z = ap (λ (x : Head). record { zct = x .zct; mrt = x .mrt }) (head-of-h
 
 -- the rows of a sound heap are the heap that is read from them
 pub whole-at : {h : Head} {r : Lent} → Sized h r → Sound h r → Inv (h .sizes) (heapOf h r) → (work : List ℕ) → length work ≡ h .sizes .n
-    → Whole (h .sizes .n) (h .sizes .cap) (r .kinds) (r .values) (r .variables) (r .zct) (r .mrt) (r .counts) (r .log) work 0 (h .free) (record { zct = h .zct; mrt = h .mrt }) (heapOf h r)
+    → Whole (h .sizes .n) (h .sizes .cap) (r .kinds) (r .values) (r .variables) (r .tables .zct) (r .tables .mrt) (r .tables .counts) (r .log) work 0 (h .free) (record { zct = h .zct; mrt = h .mrt }) (heapOf h r)
 unfolding heapOf
 whole-at {h} {r} Z S I work e =
     rw (rows-of-heap Z S, used-at Z) at (whole-of (h .sizes) (fine-of (Z .limits)) (heapOf h r) I work e)

@@ -73,11 +73,11 @@ record Computed : Type 0 where
   reads-0 : N.AsEndless (N.but14 (N.saidIn 1 (seven ∷ []) (N.runOf answersNought (sized 1 1 2 3) r₀ (seven ∷ [])))) (E.endless 1) → pos 0 ≡ pos 7
   nothing-accepted : freesNothing .batch h₁ r₁ clear₀ two .outcome .status ≡ 0
   nothing-zct : freesNothing .batch h₁ r₁ clear₀ two .outcome .head .zct ≡ 1
-  nothing-unheld : heldAmong 1 (freesNothing .batch h₁ r₁ clear₀ two .rows .variables) (getD (freesNothing .batch h₁ r₁ clear₀ two .rows .zct) 0 0) 1 ≡ false
+  nothing-unheld : heldAmong 1 (freesNothing .batch h₁ r₁ clear₀ two .rows .variables) (getD (freesNothing .batch h₁ r₁ clear₀ two .rows .tables .zct) 0 0) 1 ≡ false
   once-honest : freesOnce .batch h₀ r₀ clear₀ two ≡ N.ours .batch h₀ r₀ clear₀ two
   once-accepted : freesOnce .batch h₁ r₁ clear₀ two .outcome .status ≡ 0
   once-zct : freesOnce .batch h₁ r₁ clear₀ two .outcome .head .zct ≡ 1
-  once-unheld : heldAmong 1 (freesOnce .batch h₁ r₁ clear₀ two .rows .variables) (getD (freesOnce .batch h₁ r₁ clear₀ two .rows .zct) 0 0) 1 ≡ false
+  once-unheld : heldAmong 1 (freesOnce .batch h₁ r₁ clear₀ two .rows .variables) (getD (freesOnce .batch h₁ r₁ clear₀ two .rows .tables .zct) 0 0) 1 ≡ false
   count-accepted : madeUpCount .batch h₀ r₀ [] [] .outcome .status ≡ 0
   count-1 : madeUpCount .batch h₀ r₀ [] [] .outcome .count ≡ 1
   count-free : freeCells (madeUpCount .batch h₀ r₀ [] [] .rows) ≡ 1

@@ -99,9 +99,9 @@ sameRows r q =
     sameℕs (r .kinds) (q .kinds)
     && sameℤs (r .values) (q .values)
     && sameℤs (r .variables) (q .variables)
-    && sameℕs (r .zct) (q .zct)
-    && sameℕs (r .mrt) (q .mrt)
-    && sameℕs (r .counts) (q .counts)
+    && sameℕs (r .tables .zct) (q .tables .zct)
+    && sameℕs (r .tables .mrt) (q .tables .mrt)
+    && sameℕs (r .tables .counts) (q .tables .counts)
     && sameℕs (r .log) (q .log)
     && sameℕs (r .work) (q .work)
 
@@ -115,8 +115,8 @@ holdsOf n o (statuses ks) = statusesAre (o .answers) ks
 holdsOf n o (valueIs i x) = sameℤ (getD (o .answers) (2 * i + 1) (negsuc 6)) x
 holdsOf n o (frees i k) = sameℤ (getD (o .answers) (2 * i) (negsuc 6)) (pos 0) && sameℤ (getD (o .answers) (2 * i + 1) (negsuc 6)) (pos k)
 holdsOf n o (total k) = eqb (o .outcome .count) k
-holdsOf n o (zct l) = sameℕs (take (o .outcome .head .zct) (o .rows .zct)) l
-holdsOf n o (mrt l ks) = sameℕs (take (o .outcome .head .mrt) (o .rows .mrt)) l && sameℕs (take (o .outcome .head .mrt) (o .rows .counts)) ks
+holdsOf n o (zct l) = sameℕs (take (o .outcome .head .zct) (o .rows .tables .zct)) l
+holdsOf n o (mrt l ks) = sameℕs (take (o .outcome .head .mrt) (o .rows .tables .mrt)) l && sameℕs (take (o .outcome .head .mrt) (o .rows .tables .counts)) ks
 holdsOf n o (freeList l) = sameℕs (listFrom n (o .rows .values) (suc n) (o .outcome .head .free)) l
 holdsOf n o stillFresh = sameHead (o .outcome .head) (freshHead (sized n 3 4 3)) && sameRows (o .rows) (freshly n .rows)
 

@@ -65,9 +65,9 @@ pub record Demand1 (H : Heaps) : Type 0 where
 
 -- a cell not at the cap has its exact number of pointers from cells: none in ZCT, the count in MRT, else one
 pub record ExactBelowCap (h : Head) (r : Lent) : Type 0 where
-  pub none : (j : ℕ) → j < h .zct → pointersTo h r (getD (r .zct) j 0) ≡ 0
-  pub many : (j : ℕ) → j < h .mrt → getD (r .counts) j 0 < h .sizes .cap → pointersTo h r (getD (r .mrt) j 0) ≡ getD (r .counts) j 0
-  pub one : (a : ℕ) → Live (h .sizes .n) (r .kinds) a → NotIn (r .zct) (h .zct) a → NotIn (r .mrt) (h .mrt) a → pointersTo h r a ≡ 1
+  pub none : (j : ℕ) → j < h .zct → pointersTo h r (getD (r .tables .zct) j 0) ≡ 0
+  pub many : (j : ℕ) → j < h .mrt → getD (r .tables .counts) j 0 < h .sizes .cap → pointersTo h r (getD (r .tables .mrt) j 0) ≡ getD (r .tables .counts) j 0
+  pub one : (a : ℕ) → Live (h .sizes .n) (r .kinds) a → NotIn (r .tables .zct) (h .zct) a → NotIn (r .tables .mrt) (h .mrt) a → pointersTo h r a ≡ 1
 
 abbrev pub isNew : Call → Bool
 isNew (New v) = true
@@ -103,7 +103,7 @@ pub record Demand2 (H : Heaps) : Type 0 where
   pub exact-below-cap : (h : Head) (r : Lent) (ws row : List ℤ) → H .batch h r ws row .outcome .status ≡ 0 → ExactBelowCap (H .batch h r ws row .outcome .head) (H .batch h r ws row .rows)
   -- afterwards some variable holds each ZCT cell
   pub frees-all : (h : Head) (r : Lent) (ws row : List ℤ) → H .batch h r ws row .outcome .status ≡ 0
-      → (j : ℕ) → j < H .batch h r ws row .outcome .head .zct → heldAmong (h .sizes .n) (H .batch h r ws row .rows .variables) (getD (H .batch h r ws row .rows .zct) j 0) (h .sizes .m) ≡ true
+      → (j : ℕ) → j < H .batch h r ws row .outcome .head .zct → heldAmong (h .sizes .n) (H .batch h r ws row .rows .variables) (getD (H .batch h r ws row .rows .tables .zct) j 0) (h .sizes .m) ≡ true
   -- the count is the growth of the free cells plus the cells handed out
   pub count-is-freed : (h : Head) (r : Lent) (ws row : List ℤ) (cs : List Call) → callsIn (h .sizes .m) ws ≡ some cs → H .batch h r ws row .outcome .status ≡ 0
       → freeCells r + H .batch h r ws row .outcome .count ≡ freeCells (H .batch h r ws row .rows) + handedOut (said cs (H .batch h r ws row .answers))

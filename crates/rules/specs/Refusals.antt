@@ -54,9 +54,7 @@ cleared h r =
       kinds = r .kinds;
       values = r .values;
       variables = r .variables;
-      zct = r .zct;
-      mrt = r .mrt;
-      counts = r .counts;
+      tables = r .tables;
       log = r .log;
       work = replicate (h .sizes .n) 0;
     }

@@ -15,19 +15,27 @@ use Rattle.rules.specs.Table.{Entry, entry, addresses, counts, pad, All,
 use Rattle.rules.specs.Rules.{Tables, Transaction, allocates, creates, destroys}
 use Rattle.rules.specs.Settle.{Heap}
 
+-- the rows of the two tables: addresses of ZCT; addresses of MRT, and the counts beside them
+pub record TableRows : Type 0 where
+  pub zct : List ℕ
+  pub mrt : List ℕ
+  pub counts : List ℕ
+
 -- the rows that are lent, by their names in document 01's table
 pub record Lent : Type 0 where
   pub kinds : List ℕ
   pub values : List ℤ
   pub variables : List ℤ
-  pub zct : List ℕ
-  pub mrt : List ℕ
-  pub counts : List ℕ
+  pub tables : TableRows
   pub log : List ℕ
   pub work : List ℕ
 
+-- the rows, one by one
+abbrev pub tableRows : List ℕ → List ℕ → List ℕ → TableRows
+tableRows zs ms cs = record { zct = zs; mrt = ms; counts = cs }
+
 abbrev pub lent : List ℕ → List ℤ → List ℤ → List ℕ → List ℕ → List ℕ → List ℕ → List ℕ → Lent
-lent ks xs vs zs ms cs ls ws = record { kinds = ks; values = xs; variables = vs; zct = zs; mrt = ms; counts = cs; log = ls; work = ws }
+lent ks xs vs zs ms cs log work = record { kinds = ks; values = xs; variables = vs; tables = tableRows zs ms cs; log = log; work = work }
 
 -- the log's words: kind (1 allocate, 2 create, 3 destroy) and address of each entry
 abbrev pub words : List Transaction → List ℕ
@@ -43,9 +51,7 @@ rowsOf s h =
       kinds = map kindOf (h .shape .fields);
       values = map valueOf (h .shape .fields);
       variables = map variableOf (h .shape .variables);
-      zct = pad (s .n) (h .tables .zct);
-      mrt = pad (s .n) (addresses (h .tables .mrt));
-      counts = pad (s .n) (counts (h .tables .mrt));
+      tables = tableRows (pad (s .n) (h .tables .zct)) (pad (s .n) (addresses (h .tables .mrt))) (pad (s .n) (counts (h .tables .mrt)));
       log = pad (2 * s .l) (words (h .log));
       work = replicate (s .n) 0;
     }
@@ -78,7 +84,7 @@ heapOf h r =
     record {
       shape = record { fields = fieldsOf (r .kinds) (r .values); variables = map heldOf (r .variables) };
       first = h .free;
-      tables = record { zct = take (h .zct) (r .zct); mrt = entriesOf (take (h .mrt) (r .mrt)) (take (h .mrt) (r .counts)) };
+      tables = record { zct = take (h .zct) (r .tables .zct); mrt = entriesOf (take (h .mrt) (r .tables .mrt)) (take (h .mrt) (r .tables .counts)) };
       log = [];
       freed = 0;
     }

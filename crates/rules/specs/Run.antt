@@ -77,9 +77,7 @@ pub record AlikeRows (r q : Lent) : Type 0 where
   pub values-long : length (r .values) ≡ length (q .values)
   pub values : (i : ℕ) → (getD (r .kinds) i 0 ≡ 1 → ⊥) → getD (r .values) i (pos 0) ≡ getD (q .values) i (pos 0)
   pub variables : r .variables ≡ q .variables
-  pub zct : r .zct ≡ q .zct
-  pub mrt : r .mrt ≡ q .mrt
-  pub counts : r .counts ≡ q .counts
+  pub tables : r .tables ≡ q .tables
   pub log : r .log ≡ q .log
   pub work : r .work ≡ q .work
 

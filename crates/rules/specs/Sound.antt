@@ -134,24 +134,24 @@ pub record Sound (h : Head) (r : Lent) : Type 0 where
   -- variables name cells that aren't free, or are -1
   pub variables : Variables (h .sizes .n) (r .kinds) (r .variables)
   -- table rows are as above: ascending by address, so that none names a cell twice; ZCT and MRT name cells that aren't free
-  pub zct-row : TableRow (h .sizes .n) (r .kinds) (r .zct) (h .zct)
-  pub mrt-row : TableRow (h .sizes .n) (r .kinds) (r .mrt) (h .mrt)
+  pub zct-row : TableRow (h .sizes .n) (r .kinds) (r .tables .zct) (h .zct)
+  pub mrt-row : TableRow (h .sizes .n) (r .kinds) (r .tables .mrt) (h .mrt)
   -- zeros after the used part
-  pub zct-zeros : ZeroFrom (r .zct) (h .zct)
-  pub mrt-zeros : ZeroFrom (r .mrt) (h .mrt)
-  pub counts-zeros : ZeroFrom (r .counts) (h .mrt)
+  pub zct-zeros : ZeroFrom (r .tables .zct) (h .zct)
+  pub mrt-zeros : ZeroFrom (r .tables .mrt) (h .mrt)
+  pub counts-zeros : ZeroFrom (r .tables .counts) (h .mrt)
   -- the free list meets every free cell once
   pub free-list : FreeList (h .sizes .n) (r .kinds) (r .values) (h .free)
   -- ZCT and MRT share no cell
-  pub apart : (i j : ℕ) → i < h .zct → j < h .mrt → getD (r .zct) i 0 ≡ getD (r .mrt) j 0 → ⊥
+  pub apart : (i j : ℕ) → i < h .zct → j < h .mrt → getD (r .tables .zct) i 0 ≡ getD (r .tables .mrt) j 0 → ⊥
   -- a cell that isn't free and is in neither has one pointer from cells
-  pub one : (a : ℕ) → Live (h .sizes .n) (r .kinds) a → NotIn (r .zct) (h .zct) a → NotIn (r .mrt) (h .mrt) a → pointersTo h r a ≡ 1
+  pub one : (a : ℕ) → Live (h .sizes .n) (r .kinds) a → NotIn (r .tables .zct) (h .zct) a → NotIn (r .tables .mrt) (h .mrt) a → pointersTo h r a ≡ 1
   -- a ZCT cell has none, and some variable holds it
-  pub none : (j : ℕ) → j < h .zct → pointersTo h r (getD (r .zct) j 0) ≡ 0
-  pub held : (j : ℕ) → j < h .zct → heldAmong (h .sizes .n) (r .variables) (getD (r .zct) j 0) (length (r .variables)) ≡ true
+  pub none : (j : ℕ) → j < h .zct → pointersTo h r (getD (r .tables .zct) j 0) ≡ 0
+  pub held : (j : ℕ) → j < h .zct → heldAmong (h .sizes .n) (r .variables) (getD (r .tables .zct) j 0) (length (r .variables)) ≡ true
   -- an MRT count from 2 to below the cap is exact, and a count at the cap may stand with any number; no other count occurs
-  pub exact : (j : ℕ) → j < h .mrt → getD (r .counts) j 0 < h .sizes .cap → pointersTo h r (getD (r .mrt) j 0) ≡ getD (r .counts) j 0
-  pub ranged : Ranged (r .counts) (h .mrt) (h .sizes .cap)
+  pub exact : (j : ℕ) → j < h .mrt → getD (r .tables .counts) j 0 < h .sizes .cap → pointersTo h r (getD (r .tables .mrt) j 0) ≡ getD (r .tables .counts) j 0
+  pub ranged : Ranged (r .tables .counts) (h .mrt) (h .sizes .cap)
   -- log is zero
   pub log-zero : ZeroFrom (r .log) 0
 
@@ -169,4 +169,4 @@ pub record Lengths (h : Head) (kinds values variables zct mrt counts log work : 
 -- the head's numbers and the rows' lengths are as above
 pub record Sized (h : Head) (r : Lent) : Type 0 where
   pub limits : Limits h
-  pub lengths : Lengths h (length (r .kinds)) (length (r .values)) (length (r .variables)) (length (r .zct)) (length (r .mrt)) (length (r .counts)) (length (r .log)) (length (r .work))
+  pub lengths : Lengths h (length (r .kinds)) (length (r .values)) (length (r .variables)) (length (r .tables .zct)) (length (r .tables .mrt)) (length (r .tables .counts)) (length (r .log)) (length (r .work))
