@@ -188,7 +188,7 @@ demand-2 =
       exact-below-cap = λ h r ws row s.
           let t = taken h r ws row s in
           let u = exit-sound (t .sized) (t .sound) (t .callable .calls) (taken-fit t) row in
-          rw (t .left) (record { none = u .none; many = u .exact; one = u .one });
+          rw (t .left) (u .agree);
       frees-all = λ h r ws row s.
           let t = taken h r ws row s in
           rw (t .left) (all-held (t .sized) (t .sound) (t .callable .calls) (taken-fit t) row);
