@@ -10,7 +10,7 @@ use Rattle.rules.specs.declared.Call.the-variants.{New, Copy, Clear, Link, Put,
 use Rattle.rules.specs.Field.{variableOf}
 use Rattle.rules.specs.Settle.{Shape}
 use Rattle.rules.specs.Call.{logs}
-use Rattle.rules.specs.Rows.{Cells}
+use Rattle.rules.specs.Whole.{Cells}
 
 -- the row of variables is what they hold, of addresses below n
 pub record Held (n : ℕ) (vs : List ℤ) (hs : List (Option ℕ)) : Type 0 where

@@ -18,7 +18,7 @@ use Rattle.rules.specs.Rules.{Transaction}
 use Rattle.rules.specs.Settle.{Shape, Heap, place, field, drops}
 use Rattle.rules.specs.Call.{var, at, isHeld, want, write, hold, toCell, target, makes, sameCell}
 use Rattle.rules.specs.Step.{noneFree, doNew, takeCell}
-use Rattle.rules.specs.Rows.{Inside, Cells, Logged, Whole}
+use Rattle.rules.specs.Whole.{Inside, Cells, Logged, Whole}
 use Rattle.cells.specs.Leaves.{heldAs}
 use Rattle.cells.specs.Log.{transaction}
 use Rattle.cells.specs.Free.{Taken}

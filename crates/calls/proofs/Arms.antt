@@ -17,7 +17,7 @@ use Rattle.rules.specs.Rules.{Transaction}
 use Rattle.rules.specs.Settle.{Shape, Heap, drops}
 use Rattle.rules.specs.Call.{var, at, isHeld, want, check, logs, act, value, write, hold, toCell, target, makes, figureOf, sameCell}
 use Rattle.rules.specs.Step.{doCall, room}
-use Rattle.rules.specs.Rows.{Logged, Whole}
+use Rattle.rules.specs.Whole.{Logged, Whole}
 use Rattle.rules.proofs.Calls.{two-11, Fits}
 use Rattle.cells.proofs.Storing.{cell-lengths}
 use Rattle.cells.proofs.Logging.{logged-same}

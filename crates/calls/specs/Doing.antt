@@ -13,7 +13,7 @@ use Rattle.rules.specs.Rules.{Transaction}
 use Rattle.rules.specs.Settle.{Shape, Heap, drops}
 use Rattle.rules.specs.Call.{var, at, isHeld, want, check}
 use Rattle.rules.specs.Step.{Stepped, done, doNew, doCall}
-use Rattle.rules.specs.Rows.{Inside, Logged, Whole}
+use Rattle.rules.specs.Whole.{Inside, Logged, Whole}
 use Rattle.calls.specs.declared.Acted.{Acted}
 use Rattle.before.specs.Seen.{Shown, Named, needs}
 

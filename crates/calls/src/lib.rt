@@ -12,7 +12,7 @@ ghost use Rattle.rules.specs.Rules.{Transaction};
 ghost use Rattle.rules.specs.Settle.{Shape, Heap, drops};
 ghost use Rattle.rules.specs.Call.{var, at, makes, write, toCell, target, figureOf, sameCell};
 ghost use Rattle.rules.specs.Step.{doNew};
-ghost use Rattle.rules.specs.Rows.{Inside, Logged, Whole};
+ghost use Rattle.rules.specs.Whole.{Inside, Logged, Whole};
 ghost use Rattle.cells.specs.Leaves.{heldAs};
 ghost use Rattle.before.specs.Seen.{Held, Shown, Reach};
 ghost use Rattle.calls.specs.Doing.{acted, Did, Plain, Wrote, Writable, Linkable, Takeable, Able};

@@ -10,7 +10,8 @@ use lib.Seq.{getD-set-same, getD-set-other}
 use lib.Dec.{eqb}
 use borrow.Author.Tests.{eqb-true, eqb-false}
 use Rattle.rules.specs.Rules.{Transaction, allocates, creates, destroys}
-use Rattle.rules.specs.Rows.{words, Logged}
+use Rattle.rules.specs.Rows.{words}
+use Rattle.rules.specs.Whole.{Logged}
 use Rattle.rules.proofs.Roundtrip.{length-words}
 use Rattle.cells.specs.Log.{transaction}
 use Rattle.cells.proofs.Filling.{put-two}

@@ -10,7 +10,7 @@ use Rattle.rules.specs.declared.Field.the-variants.{Nothing, Figure, Cell, Free
 use Rattle.rules.specs.Field.{fieldOf, kindOf, valueOf}
 use Rattle.rules.specs.Settle.{place, field, store}
 use Rattle.rules.specs.Step.{after}
-use Rattle.rules.specs.Rows.{Inside, Cells}
+use Rattle.rules.specs.Whole.{Inside, Cells}
 use Rattle.rules.proofs.Roundtrip.{field-back}
 use Rattle.cells.specs.Free.{Taken}
 

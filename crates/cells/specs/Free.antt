@@ -7,7 +7,7 @@ use Rattle.rules.specs.declared.Field.{Field}
 use Rattle.rules.specs.declared.Field.the-variants.{Nothing}
 use Rattle.rules.specs.Settle.{field, store}
 use Rattle.rules.specs.Step.{after}
-use Rattle.rules.specs.Rows.{Cells}
+use Rattle.rules.specs.Whole.{Cells}
 
 -- the rows are fs with nothing in field 0 of a, and r is the free address after a
 pub record Taken (n : ℕ) (ks : List ℕ) (xs : List ℤ) (a r : ℕ) (fs : List Field) : Type 0 where

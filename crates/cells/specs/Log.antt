@@ -6,7 +6,7 @@ use mathlib.Core.List.{List, _∷_}
 use lib.Dec.{eqb}
 use lib.ListN.{getD, drop}
 use Rattle.rules.specs.Rules.{Transaction, allocates, creates, destroys}
-use Rattle.rules.specs.Rows.{Logged}
+use Rattle.rules.specs.Whole.{Logged}
 use Rattle.cells.specs.declared.Note.{Note}
 
 -- the entry that a kind and an address are: 1 allocate, 2 create, else destroy

@@ -56,7 +56,7 @@ short-of m ws row ds e l = let n = listed m ws ds e .long in omega arith
 
 module _ {h : Head} {r : Lent} (ws row : List ℤ) (Z : Sized h r) (S : Sound h r) {ds : List Call} (e : callsIn (h .sizes .m) ws ≡ some ds) (l : 2 * length ds ≤ length row)
     {work : List ℕ} (zeros : work ≡ replicate (h .sizes .n) 0) where
-  pub start-standing : Standing (h .sizes) (r .kinds) (r .values) (r .variables) (r .zct) (r .mrt) (r .counts) (r .log) work (startOf h) (heapOf h r)
+  pub start-standing : Standing (h .sizes) (r .kinds) (r .values) (r .variables) (r .tables .zct) (r .tables .mrt) (r .tables .counts) (r .log) work (startOf h) (heapOf h r)
   unfolding heapOf
   start-standing =
       let I = entry-ended Z S .inv in
@@ -67,7 +67,7 @@ module _ {h : Head} {r : Lent} (ws row : List ℤ) (Z : Sized h r) (S : Sound h 
         freed = refl;
       }
 
-  pub runnable : Runnable (h .sizes) ws (r .kinds) (r .values) (r .variables) (r .zct) (r .mrt) (r .counts) (r .log) work row (startOf h)
+  pub runnable : Runnable (h .sizes) ws (r .kinds) (r .values) (r .variables) (r .tables .zct) (r .tables .mrt) (r .tables .counts) (r .log) work row (startOf h)
   runnable =
       record {
         fine = fine-of (Z .limits);
@@ -112,18 +112,18 @@ module _ {h : Head} {r : Lent} (ws row : List ℤ) (Z : Sized h r) {right : Bool
       room : 2 * length (all .list) ≤ length row
       room = room-of (h .sizes .m) ws row (all .list) (all .are) long
 
-      pub refused-4 : {o : Outcome} → not good ≡ true → o ≡ outcome 4 h 0 → leavesWith o (lent (r .kinds) (r .values) (r .variables) (r .zct) (r .mrt) (r .counts) (r .log) work) row ≡ batchOf h r ws row
+      pub refused-4 : {o : Outcome} → not good ≡ true → o ≡ outcome 4 h 0 → leavesWith o (lent (r .kinds) (r .values) (r .variables) (r .tables .zct) (r .tables .mrt) (r .tables .counts) (r .log) work) row ≡ batchOf h r ws row
       refused-4 t e = rw (e, audited .1) (left-4 ws row Z (all .list) (all .are) room (audited .0 .no (not-true good t)))
 
       module _ (sound : not good ≡ false) where
         is-sound : Sound h r
         is-sound = audited .0 .yes (not-false good sound)
 
-        pub runnable-by : Runnable (h .sizes) ws (r .kinds) (r .values) (r .variables) (r .zct) (r .mrt) (r .counts) (r .log) work row (startOf h)
+        pub runnable-by : Runnable (h .sizes) ws (r .kinds) (r .values) (r .variables) (r .tables .zct) (r .tables .mrt) (r .tables .counts) (r .log) work row (startOf h)
         runnable-by = runnable ws row Z is-sound (all .are) room (audited .1)
 
         pub accepted-by : {q : Lent} {bs : List ℤ} {o : Outcome}
-            → ((ds : List Call) (g : Heap) → callsIn (h .sizes .m) ws ≡ some ds → Standing (h .sizes) (r .kinds) (r .values) (r .variables) (r .zct) (r .mrt) (r .counts) (r .log) work (startOf h) g → Done (h .sizes) ds g q row bs o)
+            → ((ds : List Call) (g : Heap) → callsIn (h .sizes .m) ws ≡ some ds → Standing (h .sizes) (r .kinds) (r .values) (r .variables) (r .tables .zct) (r .tables .mrt) (r .tables .counts) (r .log) work (startOf h) g → Done (h .sizes) ds g q row bs o)
             → leavesWith o q bs ≡ batchOf h r ws row
         accepted-by runs =
             accepted-as ws row Z is-sound (all .are) room (audited .1)

@@ -12,7 +12,7 @@ use Rattle.rules.specs.declared.Field.the-variants.{Nothing, Cell, Free}
 use Rattle.rules.specs.Field.{fieldOf}
 use Rattle.rules.specs.Rules.{Tables, destroys, leaveZct, apply, replay}
 use Rattle.rules.specs.Settle.{Heap, place, field, store, drops, freeCell}
-use Rattle.rules.specs.Rows.{Inside, Ready, Cells, Rows}
+use Rattle.rules.specs.Whole.{Inside, Ready, Cells, Rows}
 use Rattle.rules.proofs.Unique.{is-take}
 use Rattle.tables.proofs.Single.{all-at, is-padded}
 use Rattle.cells.proofs.Storing.{inside-more, cell-lengths, read}

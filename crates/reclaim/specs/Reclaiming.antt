@@ -12,7 +12,7 @@ use Rattle.rules.specs.declared.Field.{Field}
 use Rattle.rules.specs.declared.Field.the-variants.{Nothing, Figure, Cell, Free}
 use Rattle.rules.specs.Table.{Ascending}
 use Rattle.rules.specs.Settle.{Heap, field, freeCell, reclaim}
-use Rattle.rules.specs.Rows.{Rows}
+use Rattle.rules.specs.Whole.{Rows}
 use Rattle.cells.specs.Marks.{Marks}
 use Rattle.reclaim.specs.declared.Turn.{Turn}
 use Rattle.reclaim.specs.declared.Reclaimed.{Reclaimed}

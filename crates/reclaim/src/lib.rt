@@ -6,7 +6,7 @@ ghost use Prim.Native.Nat.{ℕ, _<_};
 ghost use lib.ListN.{length, getD};
 ghost use Rattle.rules.specs.Rules.{Tables, leaveZct, replay};
 ghost use Rattle.rules.specs.Settle.{Heap, drops};
-ghost use Rattle.rules.specs.Rows.{Inside, Ready, Rows};
+ghost use Rattle.rules.specs.Whole.{Inside, Ready, Rows};
 ghost use Rattle.tables.specs.Row.{Tabled};
 ghost use Rattle.cells.specs.Marks.{Marks};
 ghost use Rattle.reclaim.specs.Reclaiming.{lowTo, Heaped, Freed, Scan, Unheld, Reclaimable, Done};

@@ -18,9 +18,10 @@ use Rattle.rules.specs.Field.{kindOf, valueOf, variableOf, addressOf}
 use Rattle.rules.specs.Table.{Entry, has, countIn, addresses, counts, pad, Ascending}
 use Rattle.rules.specs.Rules.{replay}
 use Rattle.rules.specs.Settle.{Heap, holds, pick, place, field}
-use Rattle.rules.specs.Rows.{rowsOf, headOf, Kept}
+use Rattle.rules.specs.Head.{Limits}
+use Rattle.rules.specs.Rows.{rowsOf, headOf}
+use Rattle.rules.specs.Whole.{Kept}
 use Rattle.rules.specs.Sound.{Live, Mark, Word, Words, Variables, TableRow, TablesSound, NotIn, ZctHeld, kind, word, mark, pointers, heldAmong, times, FreeList, Sound}
-use Rattle.rules.proofs.Fine.{Fine}
 use Rattle.rules.proofs.Invariant.{refs, live, view, countOf, okOf, Counted, Good, Frees, Fitting, Inv, Done, Ended}
 use Rattle.rules.proofs.Reclaim.{pick-some, pick-none}
 use Rattle.rules.proofs.Positions.{getD-any, has-at, at-has, not-has, all-at, at-all, up-at, at-up, count-at, at-count, not-counted, pad-at, pad-zero, refs-pointers, holds-held, holds-at, at-holds, kind-at, kind-nothing, inside, live-at, at-live, dead-at, chain-path, path-chain, off-path, on-chain, word-of, of-word, half, no-refs, some-refs}
@@ -82,7 +83,7 @@ row-of n ks z u e a l =
       zeros = λ j h. pad-zero n z j (omega arith);
     }
 
-module _ (s : Sizes) (ok : Fine s) (h : Heap) where
+module _ (s : Sizes) (ok : Limits s) (h : Heap) where
   abbrev fs : List Field
   fs = h .shape .fields
 

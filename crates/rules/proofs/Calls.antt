@@ -20,7 +20,7 @@ use Rattle.rules.specs.Field.{Signed32}
 use Rattle.rules.specs.Rules.{Tables, Transaction, replay}
 use Rattle.rules.specs.Settle.{Shape, drops, holds, field, store}
 use Rattle.rules.specs.Call.{var, at, isHeld, isCell, want, orElse, check, makes, logs, write, hold, toCell, target, act, isBelow, isNought, isSigned32, given, number, callOf, andThen, callsOf, callsIn}
-use Rattle.rules.proofs.Fine.{Fine}
+use Rattle.rules.specs.Head.{Limits}
 use Rattle.rules.proofs.Invariant.{hit, refs, used, live, Counted, Good, Fitting, Small}
 use Rattle.rules.proofs.Exact.{gains, drop-counted, gain-counted}
 use Rattle.rules.proofs.Sorted.{small-append, replay-append}
@@ -143,7 +143,7 @@ act-variables Settle sh = refl
 
 -- ---- a shape that agrees with tables
 
-module _ (s : Sizes) (ok : Fine s) (sh : Shape) (t : Tables) (g : Good (s .n) (s .cap) (sh .fields) (sh .variables) t) where
+module _ (s : Sizes) (ok : Limits s) (sh : Shape) (t : Tables) (g : Good (s .n) (s .cap) (sh .fields) (sh .variables) t) where
   abbrev Stays : Shape → List Transaction → Type 0
   Stays sh′ l = Good (s .n) (s .cap) (sh′ .fields) (sh′ .variables) (replay (s .cap) l t)
 

@@ -25,7 +25,6 @@ use Rattle.rules.specs.Refusals.{Batched, answerWords, answered, accepte
 use Rattle.rules.specs.Run.{ours, said}
 use Rattle.rules.specs.Demands.{handedOut, freeCells, newWords, Demand2}
 use Rattle.rules.proofs.Invariant.{Inv}
-use Rattle.rules.proofs.Fine.{fine-of}
 use Rattle.rules.proofs.Tests.{sound-true, sound-false}
 use Rattle.rules.proofs.Cells.{lives}
 use Rattle.rules.proofs.Calls.{AllFit, calls-in-fit}
@@ -84,7 +83,7 @@ module _ {h : Head} {r : Lent} (Z : Sized h r) (S : Sound h r) (cs : List Call) 
   count-freed row =
       let a = rw kinds-are at (free-in (entry-ended Z S .inv)) in
       let b = free-in (exit-ended Z S cs F .inv) in
-      let c = facts.count-is-freed (h .sizes) (fine-of (Z .limits)) cs (heapOf h r) (entry-ended Z S .inv) F in
+      let c = facts.count-is-freed (h .sizes) (Z .within .limits) cs (heapOf h r) (entry-ended Z S .inv) F in
       let k : Heap = record { shape = heapOf h r .shape; first = heapOf h r .first; tables = heapOf h r .tables; log = heapOf h r .log; freed = 0 } in
       let as′ = calls (h .sizes) cs k .answers in
       let d = handed-in cs as′ (drop (2 * length as′) row) (answers-long (h .sizes) cs k) in
@@ -128,7 +127,7 @@ module _ {h : Head} {r : Lent} (Z : Sized h r) (S : Sound h r) (v : ℕ) (k : v 
   fourteen : (getD (batchOf h r (newWords v) row .answers) 0 (negsuc 0) ≡ pos 14 → h .free ≡ h .sizes .n) × (h .free ≡ h .sizes .n → getD (batchOf h r (newWords v) row .answers) 0 (negsuc 0) ≡ pos 14)
   unfolding noneFree
   fourteen =
-      let ok = fine-of (Z .limits) in
+      let ok = Z .within .limits in
       let e = ap (λ (o : Batched). getD (o .answers) 0 (negsuc 0)) new-left ∙ new-status in
       let f = facts.fourteen-full (h .sizes) ok v (heapOf h r) ((entry-ended Z S) .inv) in
       let a = ap (noneFree (h .sizes)) (facts.settled-again (h .sizes) ok (heapOf h r) (entry-ended Z S)) in (
@@ -141,7 +140,7 @@ module _ {h : Head} {r : Lent} (Z : Sized h r) (S : Sound h r) (v : ℕ) (k : v 
     new-taken : step (h .sizes) (New v) (heapOf h r) ≡ record { heap = takeCell v (heapOf h r); answer = record { status = 0; value = pos 0 } }
     unfolding step check run doNew settledIf full noneFree heapOf
     new-taken =
-        let l : 1 ≤ h .sizes .l = let e = Z .limits .l-least in omega arith in
+        let l : 1 ≤ h .sizes .l = let e = Z .within .limits .l-least in omega arith in
         let n : h .free ≡ h .sizes .n → ⊥ = λ e. omega arith in
         rw (le-ltb (h .sizes .l) 1 l, ne-eqb (h .free) (h .sizes .n) n, ne-eqb (h .free) (h .sizes .n) n)
 
@@ -155,7 +154,7 @@ module _ {h : Head} {r : Lent} (Z : Sized h r) (S : Sound h r) (v : ℕ) (k : v 
     new-holds : getD (batch (h .sizes) (New v ∷ []) (heapOf h r) .heap .shape .variables) v none ≡ some (h .free)
     unfolding takeCell hold heapOf
     new-holds =
-        let ok = fine-of (Z .limits) in
+        let ok = Z .within .limits in
         let I : Inv (h .sizes) (takeCell v (heapOf h r)) = subst (λ (o : Stepped). Inv (h .sizes) (o .heap)) new-taken (step-inv (h .sizes) ok (New v) (heapOf h r) ((entry-ended Z S) .inv) (fit .0)) in
         let e = settled-done (h .sizes) ok (takeCell v (heapOf h r)) I .1 .1 in
         let long : v < length (heapOf h r .shape .variables) = let g = (entry-ended Z S) .inv .variables-long in omega arith in

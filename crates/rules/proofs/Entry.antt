@@ -12,7 +12,6 @@ use Rattle.rules.specs.Rows.{Lent, fieldsOf, heapOf}
 use Rattle.rules.specs.Sound.{Sound, Sized}
 use Rattle.rules.specs.Refusals.{cleared, accepted}
 use Rattle.rules.proofs.Invariant.{Ended}
-use Rattle.rules.proofs.Fine.{fine-of}
 use Rattle.rules.proofs.Calls.{AllFit}
 use Rattle.rules.proofs.Step.{batch-ended}
 use Rattle.rules.proofs.Roundtrip.{sized-of-ended, rows-of-heap, head-of-heap}
@@ -40,17 +39,17 @@ module _ {h : Head} {r : Lent} (Z : Sized h r) (S : Sound h r) where
 
   pub entry-ended : Ended (h .sizes) (heapOf h r)
   entry-ended =
-      sound-ended (h .sizes) (fine-of (Z .limits)) (heapOf h r) plain
+      sound-ended (h .sizes) (Z .within .limits) (heapOf h r) plain
       (rw (head-of-heap Z, rows-of-heap Z S) (sound-cleared S))
 
   module _ (cs : List Call) (F : AllFit (h .sizes) cs) where
     pub exit-ended : Ended (h .sizes) (batch (h .sizes) cs (heapOf h r) .heap)
-    exit-ended = batch-ended (h .sizes) (fine-of (Z .limits)) cs (heapOf h r) (entry-ended .inv) F
+    exit-ended = batch-ended (h .sizes) (Z .within .limits) cs (heapOf h r) (entry-ended .inv) F
 
     pub exit-sized : (row : List ℤ) → Sized (accepted h r cs row .outcome .head) (accepted h r cs row .rows)
     unfolding accepted
-    exit-sized row = sized-of-ended (fine-of (Z .limits)) exit-ended
+    exit-sized row = sized-of-ended (Z .within .limits) exit-ended
 
     pub exit-sound : (row : List ℤ) → Sound (accepted h r cs row .outcome .head) (accepted h r cs row .rows)
     unfolding accepted
-    exit-sound row = ended-sound (h .sizes) (fine-of (Z .limits)) (batch (h .sizes) cs (heapOf h r) .heap) exit-ended
+    exit-sound row = ended-sound (h .sizes) (Z .within .limits) (batch (h .sizes) cs (heapOf h r) .heap) exit-ended

@@ -21,7 +21,7 @@ use Rattle.rules.specs.Settle.{Shape, Heap, holds, pick, place, field, r
 use Rattle.rules.specs.Call.{Answer, answer, var, want, orElse, check, logs, hold}
 use Rattle.rules.specs.Demands.{isNew}
 use Rattle.rules.specs.Step.{Stepped, done, refused, settledIf, full, noneFree, takeCell, doNew, doSettle, doCall, room, run, step, calls, batch}
-use Rattle.rules.proofs.Fine.{Fine}
+use Rattle.rules.specs.Head.{Limits}
 use Rattle.rules.proofs.Invariant.{refs, live, count, Inv, Ended}
 use Rattle.rules.proofs.Tables.{eqb-self}
 use Rattle.rules.proofs.Sorted.{replay-kept}
@@ -147,7 +147,7 @@ taken-freed v h = refl
 
 -- ---- over a heap with the invariant
 
-module _ (s : Sizes) (ok : Fine s) where
+module _ (s : Sizes) (ok : Limits s) where
   -- a settle of a settled heap changes nothing
   pub settled-again : (h : Heap) → Ended s h → settled s h ≡ h
   unfolding settled settledBy replayed replay

@@ -14,7 +14,7 @@ use Rattle.rules.specs.Field.{Signed32}
 use Rattle.rules.specs.Table.{has, countIn}
 use Rattle.rules.specs.Rules.{Tables, Transaction, allocates, creates, destroys, replay}
 use Rattle.rules.specs.Settle.{Heap, holds, pick, place, field}
-use Rattle.rules.specs.Rows.{Kept}
+use Rattle.rules.specs.Whole.{Kept}
 use Rattle.rules.specs.Sound.{times}
 
 -- ---- pointers, and cells in use

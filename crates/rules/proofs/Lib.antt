@@ -2,7 +2,6 @@
 pub mod Against
 pub mod Answers
 pub mod Invariant
-pub mod Fine
 pub mod Tests
 pub mod Tables
 pub mod Exact

@@ -9,7 +9,7 @@ use lib.Dec.{eqb}
 use borrow.Author.Tests.{eqb-true, eq-eqb}
 use Rattle.rules.specs.Table.{has, Ascending}
 use Rattle.rules.specs.Settle.{Heap, holds, pick, onPick, freeCell, reclaim}
-use Rattle.rules.specs.Rows.{Kept}
+use Rattle.rules.specs.Whole.{Kept}
 use Rattle.rules.proofs.Invariant.{live, Good, Done}
 use Rattle.rules.proofs.Sorted.{all-has}
 use Rattle.rules.proofs.Cells.{Plain1, Figures, lives}

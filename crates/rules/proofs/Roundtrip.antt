@@ -22,7 +22,7 @@ use Rattle.rules.specs.Sound.{Word, Variable, ZeroFrom, Sound, Sized}
 use Rattle.rules.specs.Refusals.{cleared}
 use Rattle.rules.proofs.Positions.{half}
 use Rattle.rules.proofs.Invariant.{Chain, Inv, Ended}
-use Rattle.rules.proofs.Fine.{Fine}
+use Rattle.rules.specs.Head.{Limits}
 
 -- ---- written down and read back
 
@@ -145,13 +145,13 @@ pad-again n k row e h Z =
 
 module _ {h : Head} {r : Lent} (Z : Sized h r) where
   zct-long : length (take (h .zct) (r .tables .zct)) ≡ h .zct
-  zct-long = let l = Z .lengths in let m = Z .limits in length-take-le (h .zct) (r .tables .zct) (omega arith)
+  zct-long = let l = Z .lengths in let m = Z .within in length-take-le (h .zct) (r .tables .zct) (omega arith)
 
   mrt-long : length (take (h .mrt) (r .tables .mrt)) ≡ h .mrt
-  mrt-long = let l = Z .lengths in let m = Z .limits in length-take-le (h .mrt) (r .tables .mrt) (omega arith)
+  mrt-long = let l = Z .lengths in let m = Z .within in length-take-le (h .mrt) (r .tables .mrt) (omega arith)
 
   counts-long : length (take (h .mrt) (r .tables .counts)) ≡ h .mrt
-  counts-long = let l = Z .lengths in let m = Z .limits in length-take-le (h .mrt) (r .tables .counts) (omega arith)
+  counts-long = let l = Z .lengths in let m = Z .within in length-take-le (h .mrt) (r .tables .counts) (omega arith)
 
   pub head-of-heap : headOf (h .sizes) (heapOf h r) ≡ h
   unfolding headOf heapOf
@@ -169,7 +169,7 @@ module _ {h : Head} {r : Lent} (Z : Sized h r) where
     unfolding rowsOf heapOf
     rows-of-heap =
         let l = Z .lengths in
-        let m = Z .limits in
+        let m = Z .within in
         let e = mrt-long ∙ sym counts-long in
         rw (
           kinds-again (r .kinds) (r .values) (omega arith) fits,
@@ -234,24 +234,11 @@ module _ {s : Sizes} {h : Heap} (I : Inv s h) where
   pub log-fits : length (words (h .log)) ≤ 2 * s .l
   log-fits = let k = I .log-room in omega (arith, length-words (h .log))
 
-pub sized-of : {s : Sizes} {h : Heap} → Fine s → Inv s h → Sized (headOf s h) (rowsOf s h)
+pub sized-of : {s : Sizes} {h : Heap} → Limits s → Inv s h → Sized (headOf s h) (rowsOf s h)
 unfolding headOf rowsOf
 sized-of {s} {h} F I =
     record {
-      limits =
-          record {
-            n-least = F .n-least;
-            n-most = F .n-most;
-            m-least = F .m-least;
-            m-most = F .m-most;
-            l-least = F .l-least;
-            l-most = F .l-most;
-            cap-least = F .cap-least;
-            cap-most = F .cap-most;
-            free-most = first-within I;
-            zct-most = zct-fits I;
-            mrt-most = mrt-fits I;
-          };
+      within = record { limits = F; free-most = first-within I; zct-most = zct-fits I; mrt-most = mrt-fits I };
       lengths =
           record {
             for-kinds = length-map (h .shape .fields) kindOf ∙ I .good .len;
@@ -265,5 +252,5 @@ sized-of {s} {h} F I =
           };
     }
 
-pub sized-of-ended : {s : Sizes} {h : Heap} → Fine s → Ended s h → Sized (headOf s h) (rowsOf s h)
+pub sized-of-ended : {s : Sizes} {h : Heap} → Limits s → Ended s h → Sized (headOf s h) (rowsOf s h)
 sized-of-ended F E = sized-of F (E .inv)

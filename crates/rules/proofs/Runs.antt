@@ -18,7 +18,7 @@ use Rattle.rules.specs.Rows.{Lent, rowsOf, headOf}
 use Rattle.rules.specs.Refusals.{After, Batched, outcome, leaves, leavesWith, isSized, answered, accepted, checkSound, checkAnswers, checkCalls, freshOf, batchOf}
 use Rattle.rules.specs.Run.{ours, Batch, runFrom}
 use Rattle.rules.proofs.Invariant.{Ended}
-use Rattle.rules.proofs.Fine.{Fine, fine-of}
+use Rattle.rules.specs.Head.{Limits}
 use Rattle.rules.proofs.Tests.{true-sized, true-sound}
 use Rattle.rules.proofs.Calls.{calls-in-fit}
 use Rattle.rules.proofs.Step.{batch-ended}
@@ -35,7 +35,7 @@ batchFrom s h (some cs) row =
     (leavesWith (outcome 0 (headOf s (b .heap)) (b .heap .freed)) (rowsOf s (b .heap)) (answered (b .answers) row))
     (leavesWith (outcome 3 (headOf s h) 0) (rowsOf s h) row)
 
-pub in-run : (s : Sizes) → Fine s → (h : Heap) → Ended s h → (ws row : List ℤ) → batchOf (headOf s h) (rowsOf s h) ws row ≡ batchFrom s h (callsIn (s .m) ws) row
+pub in-run : (s : Sizes) → Limits s → (h : Heap) → Ended s h → (ws row : List ℤ) → batchOf (headOf s h) (rowsOf s h) ws row ≡ batchFrom s h (callsIn (s .m) ws) row
 unfolding batchOf checkCalls checkAnswers checkSound accepted batchFrom headOf
 in-run s F h E ws row = rw (true-sized (headOf s h) (rowsOf s h) (sized-of-ended F E)) (go (callsIn (s .m) ws))
   where
@@ -43,12 +43,12 @@ in-run s F h E ws row = rw (true-sized (headOf s h) (rowsOf s h) (sized-of-ended
     go none = refl
     go (some cs) = rw (true-sound (headOf s h) (rowsOf s h) (ended-sound s F h E), batch-of-ended cs E)
 
-pub in-run-ended : (s : Sizes) → Fine s → (h : Heap) → Ended s h → (ws : List ℤ) (cs : List Call) → callsIn (s .m) ws ≡ some cs → Ended s (batch s cs h .heap)
+pub in-run-ended : (s : Sizes) → Limits s → (h : Heap) → Ended s h → (ws : List ℤ) (cs : List Call) → callsIn (s .m) ws ≡ some cs → Ended s (batch s cs h .heap)
 in-run-ended s F h E ws cs e = batch-ended s F cs h (E .inv) (calls-in-fit s ws cs e)
 
 -- the sizes of an accepted fresh call are fine
-pub fine-fresh : (s : Sizes) (r : Lent) → freshOf s r .outcome .status ≡ 0 → Fine s
-fine-fresh s r e = fine-of (fresh-sized s r e .limits)
+pub limits-fresh : (s : Sizes) (r : Lent) → freshOf s r .outcome .status ≡ 0 → Limits s
+limits-fresh s r e = fresh-sized s r e .within .limits
 
 -- ---- what a batch leaves
 
@@ -82,7 +82,7 @@ left-as s h (some cs) row = go (leb (2 * length cs) (length row))
     go true = record { head = refl; rows = refl }
     go false = record { head = refl; rows = refl }
 
-pub left-ended : (s : Sizes) → Fine s → (h : Heap) → Ended s h → (ws row : List ℤ) (o : Option (List Call)) → callsIn (s .m) ws ≡ o → Ended s (left s h o row)
+pub left-ended : (s : Sizes) → Limits s → (h : Heap) → Ended s h → (ws row : List ℤ) (o : Option (List Call)) → callsIn (s .m) ws ≡ o → Ended s (left s h o row)
 left-ended s f h e ws row none i = e
 left-ended s f h e ws row (some cs) i = go (leb (2 * length cs) (length row))
   where
@@ -90,7 +90,7 @@ left-ended s f h e ws row (some cs) i = go (leb (2 * length cs) (length row))
     go true = in-run-ended s f h e ws cs i
     go false = e
 
-pub one-batch : (s : Sizes) → Fine s → (h : Heap) → Ended s h → (b : Batch) (bs : List Batch)
+pub one-batch : (s : Sizes) → Limits s → (h : Heap) → Ended s h → (b : Batch) (bs : List Batch)
     → let o = callsIn (s .m) (b .calls) in
     runFrom ours (headOf s h) (rowsOf s h) (b ∷ bs)
     ≡ batchFrom s h o (b .answers) ∷ runFrom ours (headOf s (left s h o (b .answers))) (rowsOf s (left s h o (b .answers))) bs

@@ -23,7 +23,7 @@ use Rattle.rules.specs.Call.{var, at, isHeld, isCell, isFigure, want, ch
 use Rattle.rules.specs.Step.{Stepped, done, refused, settledIf, full, noneFree, takeCell, doNew, doSettle, doCall, room, run, step, fresh}
 use Rattle.rules.specs.Endless.{Endless, endless, EndlessStep, endlessRun, endlessStep}
 use Rattle.rules.specs.Run.{NotSettle}
-use Rattle.rules.proofs.Fine.{Fine}
+use Rattle.rules.specs.Head.{Limits}
 use Rattle.rules.proofs.Invariant.{used, live, Good, Inv}
 use Rattle.rules.proofs.Tables.{eqb-self}
 use Rattle.rules.proofs.Cells.{place-in, cell-live, live-store-0, length-store, field-other, field-same, field-across}
@@ -68,7 +68,7 @@ NotNew (Read v f) = Unit {0}
 NotNew (Same v w) = Unit {0}
 NotNew Settle = Unit {0}
 
-module _ (s : Sizes) (ok : Fine s) (h : Shape) (t : Tables) (g : Good (s .n) (s .cap) (h .fields) (h .variables) t) (ρ : ℕ → ℕ) (e : Endless) (R : Sim ρ h e) where
+module _ (s : Sizes) (ok : Limits s) (h : Shape) (t : Tables) (g : Good (s .n) (s .cap) (h .fields) (h .variables) t) (ρ : ℕ → ℕ) (e : Endless) (R : Sim ρ h e) where
   var-ren : (v : ℕ) → var (e .shape) v ≡ ren ρ (var h v)
   unfolding var
   var-ren v = rw (R .vars) (List·getD-map (ren ρ) (h .variables) v none)
@@ -232,7 +232,7 @@ sim-less ρ h h′ e v l f R =
       len = R .len;
     }
 
-pub sim-settled : (s : Sizes) → Fine s → (h : Heap) → Inv s h → (ρ : ℕ → ℕ) (e : Endless) → Sim ρ (h .shape) e → Sim ρ (settled s h .shape) e
+pub sim-settled : (s : Sizes) → Limits s → (h : Heap) → Inv s h → (ρ : ℕ → ℕ) (e : Endless) → Sim ρ (h .shape) e → Sim ρ (settled s h .shape) e
 unfolding settled settledBy replayed freeCell
 sim-settled s ok h g ρ e = reclaim-keeps (s .n) (s .cap) (ok .cap-least) (h .shape .variables) (λ k. Sim ρ (k .shape) e)
     (λ h g a i u. sim-less ρ (h .shape) (freeCell (s .cap) a h .shape) e refl
@@ -265,7 +265,7 @@ new-field l k f e h = rw (← e, getD-append-add) (go f h)
     go (suc zero) h = refl
     go (suc (suc f)) h = absurd (omega arith)
 
-module _ (s : Sizes) (ok : Fine s) (h : Heap) (g : Inv s h) (d : noneFree s h ≡ false) (ρ : ℕ → ℕ) (e : Endless) (R : Sim ρ (h .shape) e) where
+module _ (s : Sizes) (ok : Limits s) (h : Heap) (g : Inv s h) (d : noneFree s h ≡ false) (ρ : ℕ → ℕ) (e : Endless) (R : Sim ρ (h .shape) e) where
   abbrev extend : ℕ → ℕ
   extend b = cond (eqb b (h .first)) (e .next) (ρ b)
 
@@ -352,7 +352,7 @@ pub record Agree (c : Call) (o : Stepped) (p : EndlessStep) : Type 0 where
 abbrev went : Call → Endless → EndlessStep
 went c e = record { heap = endlessRun c e; answer = answer 0 (value c (e .shape)) }
 
-module _ (s : Sizes) (ok : Fine s) where
+module _ (s : Sizes) (ok : Limits s) where
   sim-if : (b : Bool) (h : Heap) → Inv s h → (ρ : ℕ → ℕ) (e : Endless) → Sim ρ (h .shape) e → Sim ρ (settledIf b s h .shape) e
   unfolding settledIf
   sim-if true h g ρ e R = sim-settled s ok h g ρ e R

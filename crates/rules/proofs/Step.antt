@@ -18,9 +18,9 @@ use Rattle.rules.specs.Rules.{Tables, allocates, apply, replay}
 use Rattle.rules.specs.Settle.{Shape, Heap, holds, place, store, freeCell, replayed, settledBy, settled}
 use Rattle.rules.specs.Call.{var, check, logs, hold}
 use Rattle.rules.specs.Step.{Stepped, done, refused, settledIf, full, noneFree, takeCell, doNew, doSettle, doCall, room, run, step, calls, batch}
-use Rattle.rules.specs.Rows.{Kept}
+use Rattle.rules.specs.Whole.{Kept}
 use Rattle.rules.proofs.Tests.{not-first}
-use Rattle.rules.proofs.Fine.{Fine}
+use Rattle.rules.specs.Head.{Limits}
 use Rattle.rules.proofs.Invariant.{refs, live, view, Counted, Good, Frees, Small, Inv, Done, Ended}
 use Rattle.rules.proofs.Tables.{view-own, view-other, change}
 use Rattle.rules.proofs.Sorted.{replay-kept, small-append, replay-append}
@@ -44,7 +44,7 @@ module _ (s : Sizes) (hs : List (Option ℕ)) (h : Heap) where
   unfolding settledBy replayed freeCell
   settledBy-variables = reclaim-leaves (λ (x : Heap). x .shape .variables) (s .cap) hs (λ a x. refl) (s .n) (replayed (s .cap) h)
 
-module _ (s : Sizes) (ok : Fine s) (hs : List (Option ℕ)) (h : Heap)
+module _ (s : Sizes) (ok : Limits s) (hs : List (Option ℕ)) (h : Heap)
     (g : Good (s .n) (s .cap) (h .shape .fields) hs (replay (s .cap) (h .log) (h .tables))) where
   few : lives (h .shape .fields) ≤ s .n
   few = let l = lives-le (h .shape .fields) in let e = g .len in omega arith
@@ -77,7 +77,7 @@ module _ (s : Sizes) (ok : Fine s) (hs : List (Option ℕ)) (h : Heap)
   unfolding settledBy replayed
   settledBy-figures = reclaim-figures (s .n) (s .cap) (ok .cap-least) hs (s .n) (replayed (s .cap) h) g
 
-module _ (s : Sizes) (ok : Fine s) where
+module _ (s : Sizes) (ok : Limits s) where
   -- ---- settle
 
   pub settled-done : (h : Heap) → Inv s h → (Done (h .shape .variables) (settled s h)) × ((settled s h .log ≡ []) × (settled s h .shape .variables ≡ h .shape .variables))

@@ -14,7 +14,7 @@ use Rattle.rules.specs.declared.Field.the-variants.{Nothing, Free}
 use Rattle.rules.specs.Table.{has, countIn}
 use Rattle.rules.specs.Rules.{Tables, leaveZct}
 use Rattle.rules.specs.Settle.{Heap, drops, holds, place, field, store, freeCell}
-use Rattle.rules.specs.Rows.{Kept}
+use Rattle.rules.specs.Whole.{Kept}
 use Rattle.rules.proofs.Invariant.{hit, refs, live, view, count, okOf, Counted, Good, Small}
 use Rattle.rules.proofs.Tables.{remove-own, remove-other}
 use Rattle.rules.proofs.Sorted.{leaveZct-kept, replay-kept, small-append, replay-append}

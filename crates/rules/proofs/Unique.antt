@@ -9,12 +9,15 @@ use lib.Dec.{eqb}
 use lib.ListN.{length, take}
 use lib.IntN.{ℤ}
 use Rattle.rules.specs.declared.Used.{Used}
+use Rattle.rules.specs.declared.State.{State}
+use Rattle.rules.specs.declared.Sizes.{Sizes}
 use Rattle.rules.specs.declared.Field.{Field}
 use Rattle.rules.specs.Field.{variableOf, heldOf}
 use Rattle.rules.specs.Table.{counts, pad}
 use Rattle.rules.specs.Rules.{Tables, Transaction, allocates, creates, destroys}
 use Rattle.rules.specs.Settle.{Heap}
-use Rattle.rules.specs.Rows.{words, fieldsOf, entriesOf, Is, Are, Cells, Rows, Logged, Whole}
+use Rattle.rules.specs.Rows.{TableRows, Lent, tableRows, words, fieldsOf, tablesOf}
+use Rattle.rules.specs.Whole.{Is, Are, Cells, Logged, Whole}
 use Rattle.rules.proofs.Roundtrip.{fields-back, variables-back, entries-back, take-pad, length-words}
 
 -- ---- what the rows are, read back
@@ -25,11 +28,7 @@ is-take {n} {used} {row} {z} I = ap (take used) (I .padded) ∙ take-pad n used 
 pub cells-are : {n : ℕ} {ks : List ℕ} {xs : List ℤ} {fs : List Field} → Cells n ks xs fs → fieldsOf ks xs ≡ fs
 cells-are {fs = fs} C = rw (C .kinds, C .values) (fields-back fs)
 
--- the tables that three rows are
-abbrev pub tablesOf : List ℕ → List ℕ → List ℕ → Used → Tables
-tablesOf zs ms cs u = record { zct = take (u .zct) zs; mrt = entriesOf (take (u .mrt) ms) (take (u .mrt) cs) }
-
-pub tables-are : {n : ℕ} {zs ms cs : List ℕ} {u : Used} {t : Tables} → Are n zs ms cs u t → tablesOf zs ms cs u ≡ t
+pub tables-are : {n : ℕ} {r : TableRows} {u : Used} {t : Tables} → Are n r u t → tablesOf r u ≡ t
 tables-are {t = t} A = rw (is-take (A .zct-is), is-take (A .mrt-is), is-take (A .counts-is), entries-back (t .mrt))
 
 -- the entry of two words
@@ -57,90 +56,58 @@ variables-are {hs = hs} e = ap (map heldOf) e ∙ variables-back hs
 
 -- ---- rows fix the heap
 
--- what rows are, of a heap: its fields, its first free address and its tables
-pub record SameHeap (h h′ : Heap) : Type 0 where
-  pub fields : h .shape .fields ≡ h′ .shape .fields
-  pub first : h .first ≡ h′ .first
-  pub tables : h .tables ≡ h′ .tables
+pub whole-unique : {s : Sizes} {r : Lent} {at : State} {h h′ : Heap} → Whole s r at h → Whole s r at h′ → h ≡ h′
+whole-unique {h = h} {h′ = h′} W Y =
+    let R = W .rows in
+    let Q = Y .rows in
+    same
+    (sym (cells-are (R .cells)) ∙ cells-are (Q .cells))
+    (sym (variables-are (W .variables-are)) ∙ variables-are (Y .variables-are))
+    (sym (R .first) ∙ Q .first)
+    (sym (tables-are (R .ready .are)) ∙ tables-are (Q .ready .are))
+    (sym (log-is (W .logged)) ∙ log-is (Y .logged))
+    (sym (R .freed) ∙ Q .freed)
+  where
+    same : h .shape .fields ≡ h′ .shape .fields → h .shape .variables ≡ h′ .shape .variables → h .first ≡ h′ .first → h .tables ≡ h′ .tables → h .log ≡ h′ .log → h .freed ≡ h′ .freed → h ≡ h′
+    same ef ev ei et el ec =
+        ap (λ (f : List Field). record { shape = record { fields = f; variables = h .shape .variables }; first = h .first; tables = h .tables; log = h .log; freed = h .freed }) ef
+        ∙ rw (ev, ei, et, el, ec)
 
-pub heap-unique : {n cap : ℕ} {ks : List ℕ} {xs : List ℤ} {zs ms cs : List ℕ} {free : ℕ} {u : Used} {h h′ : Heap}
-    → Rows n cap ks xs zs ms cs free u h → Rows n cap ks xs zs ms cs free u h′ → SameHeap h h′
-heap-unique R Q =
-    record {
-      fields = sym (cells-are (R .cells)) ∙ cells-are (Q .cells);
-      first = sym (R .first) ∙ Q .first;
-      tables = sym (tables-are (R .ready .are)) ∙ tables-are (Q .ready .are);
-    }
+-- ---- a heap fixes its rows, all but the work row, which is scratch, and where the batch stands
 
--- and with the log's row and the variables: all but the count of cells freed
-pub record SameWhole (h h′ : Heap) : Type 0 where
-  pub fields : h .shape .fields ≡ h′ .shape .fields
-  pub variables : h .shape .variables ≡ h′ .shape .variables
-  pub first : h .first ≡ h′ .first
-  pub tables : h .tables ≡ h′ .tables
-  pub log : h .log ≡ h′ .log
+pub record SameLent (r q : Lent) (at to : State) : Type 0 where
+  pub kinds : r .kinds ≡ q .kinds
+  pub values : r .values ≡ q .values
+  pub variables : r .variables ≡ q .variables
+  pub tables : r .tables ≡ q .tables
+  pub log : r .log ≡ q .log
+  pub state : at ≡ to
 
-pub whole-unique : {n cap : ℕ} {ks : List ℕ} {xs vs : List ℤ} {zs ms cs log work work′ : List ℕ} {len free : ℕ} {u : Used} {h h′ : Heap}
-    → Whole n cap ks xs vs zs ms cs log work len free u h → Whole n cap ks xs vs zs ms cs log work′ len free u h′ → SameWhole h h′
-whole-unique W Y =
-    let S = heap-unique (W .rows) (Y .rows) in
-    record {
-      fields = S .fields;
-      variables = sym (variables-are (W .variables-are)) ∙ variables-are (Y .variables-are);
-      first = S .first;
-      tables = S .tables;
-      log = sym (log-is (W .logged)) ∙ log-is (Y .logged);
-    }
-
--- so two heaps of the same rows that freed as many cells are one
-pub same-whole : {h h′ : Heap} → SameWhole h h′ → h .freed ≡ h′ .freed → h ≡ h′
-same-whole {h} {h′} S e =
-    ap (λ (f : List Field). record { shape = record { fields = f; variables = h .shape .variables }; first = h .first; tables = h .tables; log = h .log; freed = h .freed }) (S .fields)
-    ∙ rw (S .variables, S .first, S .tables, S .log, e)
-
--- ---- a heap fixes its rows
-
-pub record SameRows (ks ks′ : List ℕ) (xs xs′ : List ℤ) (zs zs′ ms ms′ cs cs′ : List ℕ) (free free′ : ℕ) (u u′ : Used) : Type 0 where
-  pub kinds : ks ≡ ks′
-  pub values : xs ≡ xs′
-  pub zct : zs ≡ zs′
-  pub mrt : ms ≡ ms′
-  pub counts : cs ≡ cs′
-  pub first : free ≡ free′
-  pub used : u ≡ u′
-
-pub rows-unique : {n cap : ℕ} {ks ks′ : List ℕ} {xs xs′ : List ℤ} {zs zs′ ms ms′ cs cs′ : List ℕ} {free free′ : ℕ} {u u′ : Used} {h : Heap}
-    → Rows n cap ks xs zs ms cs free u h → Rows n cap ks′ xs′ zs′ ms′ cs′ free′ u′ h → SameRows ks ks′ xs xs′ zs zs′ ms ms′ cs cs′ free free′ u u′
-rows-unique {u = u} {u′ = u′} R Q =
+pub lent-unique : {s : Sizes} {r q : Lent} {at to : State} {h : Heap} → Whole s r at h → Whole s q to h → SameLent r q at to
+lent-unique {r = r} {q = q} {at = at} {to = to} {h = h} W Y =
+    let R = W .rows in
+    let Q = Y .rows in
     let A = R .ready .are in
     let B = Q .ready .are in
     record {
       kinds = R .cells .kinds ∙ sym (Q .cells .kinds);
       values = R .cells .values ∙ sym (Q .cells .values);
-      zct = A .zct-is .padded ∙ sym (B .zct-is .padded);
-      mrt = A .mrt-is .padded ∙ sym (B .mrt-is .padded);
-      counts = A .counts-is .padded ∙ sym (B .counts-is .padded);
-      first = R .first ∙ sym (Q .first);
-      used = same-used (A .zct-is .count ∙ sym (B .zct-is .count)) (A .mrt-is .count ∙ sym (B .mrt-is .count));
+      variables = W .variables-are ∙ sym (Y .variables-are);
+      tables =
+          same-tables (A .zct-is .padded ∙ sym (B .zct-is .padded)) (A .mrt-is .padded ∙ sym (B .mrt-is .padded)) (A .counts-is .padded ∙ sym (B .counts-is .padded));
+      log = W .logged .row ∙ ap (λ (k : ℕ). pad k (words (h .log))) (W .log-long ∙ sym (Y .log-long)) ∙ sym (Y .logged .row);
+      state =
+          same-state (W .logged .count ∙ sym (Y .logged .count)) (R .first ∙ sym (Q .first))
+          (A .zct-is .count ∙ sym (B .zct-is .count)) (A .mrt-is .count ∙ sym (B .mrt-is .count)) (R .freed ∙ sym (Q .freed));
     }
   where
-    same-used : u .zct ≡ u′ .zct → u .mrt ≡ u′ .mrt → u ≡ u′
-    same-used e f = ap (λ (z : ℕ). record { zct = z; mrt = u .mrt }) e ∙ ap (λ (m : ℕ). record { zct = u′ .zct; mrt = m }) f
+    same-tables : r .tables .zct ≡ q .tables .zct → r .tables .mrt ≡ q .tables .mrt → r .tables .counts ≡ q .tables .counts → r .tables ≡ q .tables
+    same-tables ez em ec = ap (λ (z : List ℕ). tableRows z (r .tables .mrt) (r .tables .counts)) ez ∙ rw (em, ec)
 
--- the log's row too, where both are as long, and the variables; the work row is scratch
-pub record SameLent (ks ks′ : List ℕ) (xs xs′ vs vs′ : List ℤ) (zs zs′ ms ms′ cs cs′ log log′ : List ℕ) (len len′ free free′ : ℕ) (u u′ : Used) : Type 0 where
-  pub rows : SameRows ks ks′ xs xs′ zs zs′ ms ms′ cs cs′ free free′ u u′
-  pub variables : vs ≡ vs′
-  pub log-row : log ≡ log′
-  pub entries : len ≡ len′
-
-pub lent-unique : {n cap : ℕ} {ks ks′ : List ℕ} {xs xs′ vs vs′ : List ℤ} {zs zs′ ms ms′ cs cs′ log log′ work work′ : List ℕ} {len len′ free free′ : ℕ} {u u′ : Used} {h : Heap}
-    → Whole n cap ks xs vs zs ms cs log work len free u h → Whole n cap ks′ xs′ vs′ zs′ ms′ cs′ log′ work′ len′ free′ u′ h → length log ≡ length log′
-    → SameLent ks ks′ xs xs′ vs vs′ zs zs′ ms ms′ cs cs′ log log′ len len′ free free′ u u′
-lent-unique {h = h} W Y e =
-    record {
-      rows = rows-unique (W .rows) (Y .rows);
-      variables = W .variables-are ∙ sym (Y .variables-are);
-      log-row = W .logged .row ∙ ap (λ (k : ℕ). pad k (words (h .log))) e ∙ sym (Y .logged .row);
-      entries = W .logged .count ∙ sym (Y .logged .count);
-    }
+    same-state : at .len ≡ to .len → at .first ≡ to .first → at .used .zct ≡ to .used .zct → at .used .mrt ≡ to .used .mrt → at .freed ≡ to .freed → at ≡ to
+    same-state el ei ez em ef =
+        ap (λ (k : ℕ). record { len = k; first = at .first; used = at .used; freed = at .freed }) el
+        ∙ ap (λ (k : ℕ). record { len = to .len; first = k; used = at .used; freed = at .freed }) ei
+        ∙ ap (λ (k : ℕ). record { len = to .len; first = to .first; used = record { zct = k; mrt = at .used .mrt }; freed = at .freed }) ez
+        ∙ ap (λ (k : ℕ). record { len = to .len; first = to .first; used = record { zct = to .used .zct; mrt = k }; freed = at .freed }) em
+        ∙ ap (λ (k : ℕ). record { len = to .len; first = to .first; used = to .used; freed = k }) ef

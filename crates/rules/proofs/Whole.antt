@@ -6,22 +6,24 @@ use mathlib.Core.Option.{none, some}
 use mathlib.Core.List.{List, [], _∷_}
 use native.Mathlib.Omega.{arith}
 use lib.Dec.{eqb}
-use lib.ListN.{length, getD, replicate, length-map, List·getD-append}
+use lib.ListN.{length, getD, replicate, length-map, length-replicate, List·getD-append}
 use lib.IntN.{ℤ}
 use borrow.Author.Tests.{eqb-true}
 use Rattle.rules.specs.declared.Head.{Head}
-use Rattle.rules.specs.declared.Used.{Used}
+use Rattle.rules.specs.declared.State.{State}
 use Rattle.rules.specs.declared.Field.{Field}
 use Rattle.rules.specs.declared.Field.the-variants.{Nothing, Figure, Cell, Free}
 use Rattle.rules.specs.declared.Sizes.{Sizes}
 use Rattle.rules.specs.Table.{addresses, counts, pad}
 use Rattle.rules.specs.Rules.{Transaction, allocates, creates, destroys}
 use Rattle.rules.specs.Settle.{Heap, place, field}
-use Rattle.rules.specs.Rows.{Lent, lent, words, rowsOf, headOf, heapOf, Inside, Logged, Whole}
+use Rattle.rules.specs.Rows.{Lent, lent, words, rowsOf, headOf, heapOf}
+use Rattle.rules.specs.Refusals.{cleared}
+use Rattle.rules.specs.Whole.{Inside, Logged, Whole, startOf}
 use Rattle.rules.specs.Sound.{times, Sound, Sized}
 use Rattle.rules.proofs.Invariant.{used, live, Chain, Small, Inv}
 use Rattle.rules.proofs.Cells.{live-below}
-use Rattle.rules.proofs.Fine.{Fine, fine-of}
+use Rattle.rules.specs.Head.{Limits}
 use Rattle.rules.proofs.Calls.{holds-var}
 use Rattle.rules.proofs.Positions.{Half, half, some-refs}
 use Rattle.rules.proofs.Roundtrip.{length-pad, length-words, mark-there, chain-within, first-within, zct-fits, addresses-fit, counts-fit, head-of-heap, rows-of-heap}
@@ -120,18 +122,27 @@ logged-of n k xs h S =
 
 -- ---- the whole
 
--- the used lengths of a heap's tables
-abbrev pub usedOf : Heap → Used
-usedOf h = record { zct = length (h .tables .zct); mrt = length (h .tables .mrt) }
-
-pub whole-of : (s : Sizes) → Fine s → (h : Heap) → Inv s h → (work : List ℕ) → length work ≡ s .n
-    → Whole (s .n) (s .cap) (rowsOf s h .kinds) (rowsOf s h .values) (rowsOf s h .variables) (rowsOf s h .tables .zct) (rowsOf s h .tables .mrt) (rowsOf s h .tables .counts) (rowsOf s h .log) work (length (h .log)) (h .first) (usedOf h) h
-unfolding rowsOf
-whole-of s F h I work e =
+-- where a batch stands on a heap
+abbrev pub stateOf : Heap → State
+stateOf h =
     record {
+      len = length (h .log);
+      first = h .first;
+      used = record { zct = length (h .tables .zct); mrt = length (h .tables .mrt) };
+      freed = h .freed;
+    }
+
+pub whole-of : {s : Sizes} {h : Heap} → Limits s → Inv s h → Whole s (rowsOf s h) (stateOf h) h
+unfolding rowsOf
+whole-of {s} {h} F I =
+    let w = length-words (h .log) in
+    let k = I .log-room in
+    record {
+      limits = F;
       rows =
           record {
-            bounds = record { most = F .n-most; big = F .cap-least };
+            most = F .n-most;
+            big = F .cap-least;
             cells = record { long = I .good .len; kinds = refl; values = refl; inside = inside I };
             ready =
                 record {
@@ -155,42 +166,42 @@ whole-of s F h I work e =
                 };
             first = refl;
             within = first-within I;
+            freed = refl;
           };
       logged = logged-of (s .n) (s .l) (h .log) (I .log-room) (I .log-small);
+      log-long = length-pad (2 * s .l) (words (h .log)) (omega arith);
       variables-are = refl;
       held-inside = held-inside I;
-      work-long = e;
+      work-long = length-replicate (s .n) 0;
     }
 
-used-at : {h : Head} {r : Lent} → Sized h r → usedOf (heapOf h r) ≡ record { zct = h .zct; mrt = h .mrt }
-unfolding headOf
-used-at Z = ap (λ (x : Head). record { zct = x .zct; mrt = x .mrt }) (head-of-heap Z)
+start-at : {h : Head} {r : Lent} → Sized h r → stateOf (heapOf h r) ≡ startOf h
+unfolding headOf heapOf
+start-at Z = ap startOf (head-of-heap Z)
 
--- the rows of a sound heap are the heap that is read from them
-pub whole-at : {h : Head} {r : Lent} → Sized h r → Sound h r → Inv (h .sizes) (heapOf h r) → (work : List ℕ) → length work ≡ h .sizes .n
-    → Whole (h .sizes .n) (h .sizes .cap) (r .kinds) (r .values) (r .variables) (r .tables .zct) (r .tables .mrt) (r .tables .counts) (r .log) work 0 (h .free) (record { zct = h .zct; mrt = h .mrt }) (heapOf h r)
-unfolding heapOf
-whole-at {h} {r} Z S I work e =
-    rw (rows-of-heap Z S, used-at Z) at (whole-of (h .sizes) (fine-of (Z .limits)) (heapOf h r) I work e)
+-- the rows of a sound heap, the work row cleared, are the heap that is read from them
+pub whole-at : {h : Head} {r : Lent} → Sized h r → Sound h r → Inv (h .sizes) (heapOf h r) → Whole (h .sizes) (cleared h r) (startOf h) (heapOf h r)
+whole-at {h} {r} Z S I = rw (rows-of-heap Z S, start-at Z) at (whole-of (Z .within .limits) I)
 
 -- ---- and the converse, for an entry point's exit
 
-module _ (s : Sizes) {ks : List ℕ} {xs vs : List ℤ} {zs ms cs log work : List ℕ} {len free : ℕ} {u : Used} {h : Heap} (W : Whole (s .n) (s .cap) ks xs vs zs ms cs log work len free u h) where
-  -- all rows but the work row are those of the heap
-  pub rows-are : length log ≡ 2 * s .l → lent ks xs vs zs ms cs log (replicate (s .n) 0) ≡ rowsOf s h
+pub lent-as : {ks ks′ : List ℕ} {xs xs′ vs vs′ : List ℤ} {zs zs′ ms ms′ cs cs′ ls ls′ ws ws′ : List ℕ}
+    → ks ≡ ks′ → xs ≡ xs′ → vs ≡ vs′ → zs ≡ zs′ → ms ≡ ms′ → cs ≡ cs′ → ls ≡ ls′ → ws ≡ ws′
+    → lent ks xs vs zs ms cs ls ws ≡ lent ks′ xs′ vs′ zs′ ms′ cs′ ls′ ws′
+lent-as ek ex ev ez em ec el ew = rw (ek, ex, ev, ez, em, ec, el, ew)
+
+module _ {s : Sizes} {r : Lent} {at : State} {h : Heap} (W : Whole s r at h) where
+  -- rows whose work row is zero are those of the heap
+  pub rows-all : r .work ≡ replicate (s .n) 0 → r ≡ rowsOf s h
   unfolding rowsOf
-  rows-are e =
+  rows-all w =
       let R = W .rows in
       let A = R .ready .are in
-      let g : log ≡ pad (2 * s .l) (words (h .log)) = W .logged .row ∙ ap (λ (m : ℕ). pad m (words (h .log))) e in
-      rw (R .cells .kinds, R .cells .values, W .variables-are, A .zct-is .padded, A .mrt-is .padded, A .counts-is .padded, g)
-
-  -- the work row too, where it is zero
-  pub rows-all : length log ≡ 2 * s .l → work ≡ replicate (s .n) 0 → lent ks xs vs zs ms cs log work ≡ rowsOf s h
-  rows-all e w = ap (λ (t : List ℕ). lent ks xs vs zs ms cs log t) w ∙ rows-are e
+      let g : r .log ≡ pad (2 * s .l) (words (h .log)) = W .logged .row ∙ ap (λ (m : ℕ). pad m (words (h .log))) (W .log-long) in
+      lent-as (R .cells .kinds) (R .cells .values) (W .variables-are) (A .zct-is .padded) (A .mrt-is .padded) (A .counts-is .padded) g w
 
   -- and the head
-  pub head-is : record { sizes = s; free = free; zct = u .zct; mrt = u .mrt } ≡ headOf s h
+  pub head-is : record { sizes = s; free = at .first; zct = at .used .zct; mrt = at .used .mrt } ≡ headOf s h
   unfolding headOf
   head-is =
       let A = W .rows .ready .are in

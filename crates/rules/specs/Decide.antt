@@ -10,7 +10,8 @@ use lib.IntN.{ℤ, pos, negsuc}
 use borrow.Author.Tests.{eqb-true, eqb-false, eq-eqb, ne-eqb, leb-true, leb-false, ltb-true, ltb-false}
 use lib.Signed.{mag}
 use Rattle.rules.specs.declared.Head.{Head}
-use Rattle.rules.specs.Head.{Limits}
+use Rattle.rules.specs.declared.Sizes.{Sizes}
+use Rattle.rules.specs.Head.{Limits, Within}
 use Rattle.rules.specs.Field.{addressOf}
 use Rattle.rules.specs.Rows.{TableRows, Lent}
 use Rattle.rules.specs.Sound.{kind, word, mark, Live, Mark, Word, Words, Variables, CellsSound, ZeroFrom, TableRow, CountsRow, TablesSound, next, FreePath, listFrom, times, FreeList, pointersTo, heldAmong, NotIn, Agree, ZctHeld, Sound, Lengths, Sized}
@@ -285,12 +286,15 @@ sound? h r =
     need (dec-zeros (r .log) 0) (λ s. s .log-zero) (λ log-zero.
     yes (record { cells = cells; tables = tables; free-list = free-list; agree = agree; held = held; log-zero = log-zero })))))))
 
-abbrev dec-limits : (h : Head) → Dec (Limits h)
-dec-limits h = map-dec (λ p. record { n-least = p .0; n-most = p .1 .0; m-least = p .1 .1 .0; m-most = p .1 .1 .1 .0; l-least = p .1 .1 .1 .1 .0; l-most = p .1 .1 .1 .1 .1 .0; cap-least = p .1 .1 .1 .1 .1 .1 .0; cap-most = p .1 .1 .1 .1 .1 .1 .1 .0; free-most = p .1 .1 .1 .1 .1 .1 .1 .1 .0; zct-most = p .1 .1 .1 .1 .1 .1 .1 .1 .1 .0; mrt-most = p .1 .1 .1 .1 .1 .1 .1 .1 .1 .1 }) (λ l. (l .n-least, (l .n-most, (l .m-least, (l .m-most, (l .l-least, (l .l-most, (l .cap-least, (l .cap-most, (l .free-most, (l .zct-most, l .mrt-most))))))))))) (Dec·and (decLe 1 (h .sizes .n)) (Dec·and (decLe (h .sizes .n) 1024) (Dec·and (decLe 1 (h .sizes .m)) (Dec·and (decLe (h .sizes .m) 64) (Dec·and (decLe 2 (h .sizes .l)) (Dec·and (decLe (h .sizes .l) 1024) (Dec·and (decLe 3 (h .sizes .cap)) (Dec·and (decLe (h .sizes .cap) 255) (Dec·and (decLe (h .free) (h .sizes .n)) (Dec·and (decLe (h .zct) (h .sizes .n)) (decLe (h .mrt) (h .sizes .n))))))))))))
+abbrev dec-limits : (s : Sizes) → Dec (Limits s)
+dec-limits s = map-dec (λ p. record { n-least = p .0; n-most = p .1 .0; m-least = p .1 .1 .0; m-most = p .1 .1 .1 .0; l-least = p .1 .1 .1 .1 .0; l-most = p .1 .1 .1 .1 .1 .0; cap-least = p .1 .1 .1 .1 .1 .1 .0; cap-most = p .1 .1 .1 .1 .1 .1 .1 }) (λ l. (l .n-least, (l .n-most, (l .m-least, (l .m-most, (l .l-least, (l .l-most, (l .cap-least, l .cap-most)))))))) (Dec·and (decLe 1 (s .n)) (Dec·and (decLe (s .n) 1024) (Dec·and (decLe 1 (s .m)) (Dec·and (decLe (s .m) 64) (Dec·and (decLe 2 (s .l)) (Dec·and (decLe (s .l) 1024) (Dec·and (decLe 3 (s .cap)) (decLe (s .cap) 255))))))))
+
+abbrev dec-within : (h : Head) → Dec (Within h)
+dec-within h = map-dec (λ p. record { limits = p .0; free-most = p .1 .0; zct-most = p .1 .1 .0; mrt-most = p .1 .1 .1 }) (λ l. (l .limits, (l .free-most, (l .zct-most, l .mrt-most)))) (Dec·and (dec-limits (h .sizes)) (Dec·and (decLe (h .free) (h .sizes .n)) (Dec·and (decLe (h .zct) (h .sizes .n)) (decLe (h .mrt) (h .sizes .n)))))
 
 abbrev dec-lengths : (h : Head) (kinds values vars zct mrt counts log work : ℕ) → Dec (Lengths h kinds values vars zct mrt counts log work)
 dec-lengths h kinds values vars zct mrt counts log work = map-dec (λ p. record { for-kinds = p .0; for-values = p .1 .0; for-variables = p .1 .1 .0; for-zct = p .1 .1 .1 .0; for-mrt = p .1 .1 .1 .1 .0; for-counts = p .1 .1 .1 .1 .1 .0; for-log = p .1 .1 .1 .1 .1 .1 .0; for-work = p .1 .1 .1 .1 .1 .1 .1 }) (λ l. (l .for-kinds, (l .for-values, (l .for-variables, (l .for-zct, (l .for-mrt, (l .for-counts, (l .for-log, l .for-work)))))))) (Dec·and (ℕ-discrete kinds (2 * h .sizes .n)) (Dec·and (ℕ-discrete values (2 * h .sizes .n)) (Dec·and (ℕ-discrete vars (h .sizes .m)) (Dec·and (ℕ-discrete zct (h .sizes .n)) (Dec·and (ℕ-discrete mrt (h .sizes .n)) (Dec·and (ℕ-discrete counts (h .sizes .n)) (Dec·and (ℕ-discrete log (2 * h .sizes .l)) (ℕ-discrete work (h .sizes .n)))))))))
 
 -- are the head's numbers within the limits, and the rows' lengths those that it says?
 unfoldable pub sized? : (h : Head) (r : Lent) → Dec (Sized h r)
-sized? h r = map-dec (λ p. record { limits = p .0; lengths = p .1 }) (λ z. (z .limits, z .lengths)) (Dec·and (dec-limits h) (dec-lengths h (length (r .kinds)) (length (r .values)) (length (r .variables)) (length (r .tables .zct)) (length (r .tables .mrt)) (length (r .tables .counts)) (length (r .log)) (length (r .work))))
+sized? h r = map-dec (λ p. record { within = p .0; lengths = p .1 }) (λ z. (z .within, z .lengths)) (Dec·and (dec-within h) (dec-lengths h (length (r .kinds)) (length (r .values)) (length (r .variables)) (length (r .tables .zct)) (length (r .tables .mrt)) (length (r .tables .counts)) (length (r .log)) (length (r .work))))

@@ -5,17 +5,20 @@ use mathlib.Core.Bool.{Bool, true, false}
 use Rattle.rules.specs.declared.Head.{Head}
 use Rattle.rules.specs.declared.Sizes.{Sizes}
 
--- cells n: 1 to 1,024; variables m: 1 to 64; log entries L: 2 to 1,024; cap of a count: 3 to 255;
--- free address 0 to n, used lengths 0 to n
-pub record Limits (h : Head) : Type 0 where
-  pub n-least : 1 ≤ h .sizes .n
-  pub n-most : h .sizes .n ≤ 1024
-  pub m-least : 1 ≤ h .sizes .m
-  pub m-most : h .sizes .m ≤ 64
-  pub l-least : 2 ≤ h .sizes .l
-  pub l-most : h .sizes .l ≤ 1024
-  pub cap-least : 3 ≤ h .sizes .cap
-  pub cap-most : h .sizes .cap ≤ 255
+-- cells n: 1 to 1,024; variables m: 1 to 64; log entries L: 2 to 1,024; cap of a count: 3 to 255
+pub record Limits (s : Sizes) : Type 0 where
+  pub n-least : 1 ≤ s .n
+  pub n-most : s .n ≤ 1024
+  pub m-least : 1 ≤ s .m
+  pub m-most : s .m ≤ 64
+  pub l-least : 2 ≤ s .l
+  pub l-most : s .l ≤ 1024
+  pub cap-least : 3 ≤ s .cap
+  pub cap-most : s .cap ≤ 255
+
+-- the sizes so; free address 0 to n, used lengths 0 to n
+pub record Within (h : Head) : Type 0 where
+  pub limits : Limits (h .sizes)
   pub free-most : h .free ≤ h .sizes .n
   pub zct-most : h .zct ≤ h .sizes .n
   pub mrt-most : h .mrt ≤ h .sizes .n

@@ -7,6 +7,8 @@ pub mod Settle
 pub mod Call
 pub mod Step
 pub mod Rows
+pub mod Whole
+pub mod Lending
 pub mod Sound
 pub mod Decide
 pub mod Refusals

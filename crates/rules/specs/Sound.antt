@@ -7,7 +7,7 @@ use lib.Dec.{eqb}
 use lib.ListN.{length, getD}
 use lib.IntN.{ℤ, pos, negsuc}
 use Rattle.rules.specs.declared.Head.{Head}
-use Rattle.rules.specs.Head.{Limits}
+use Rattle.rules.specs.Head.{Within}
 use Rattle.rules.specs.Field.{Signed32, addressOf}
 use Rattle.rules.specs.Rows.{TableRows, Lent}
 
@@ -186,5 +186,5 @@ pub record Lengths (h : Head) (kinds values variables zct mrt counts log work : 
 
 -- the head's numbers and the rows' lengths are as above
 pub record Sized (h : Head) (r : Lent) : Type 0 where
-  pub limits : Limits h
+  pub within : Within h
   pub lengths : Lengths h (length (r .kinds)) (length (r .values)) (length (r .variables)) (length (r .tables .zct)) (length (r .tables .mrt)) (length (r .tables .counts)) (length (r .log)) (length (r .work))

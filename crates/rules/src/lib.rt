@@ -1,6 +1,6 @@
 // The types of the heap: its head, a field, a call, an outcome. What they mean stands in specs/.
 ghost use mathlib.Core.Path.{_≡_};
-ghost use Rattle.rules.specs.Head.{sized, freshHead, Limits, Says};
+ghost use Rattle.rules.specs.Head.{sized, freshHead, Limits, Within, Says};
 
 // What stays the same through a heap's life: cells, variables, log entries, the cap of a count.
 #[repr(C)]
@@ -40,6 +40,29 @@ impl Sizes {
             cap: cap,
         }
     }
+
+    // Are the sizes within their limits?
+    pub fn within(self) -> bool
+        ensures { λ r. ⌜ Says r (Limits self) ⌝ }
+    {
+        let n = self.n;
+        let m = self.m;
+        let l = self.l;
+        let cap = self.cap;
+        if n < Sizes::CELLS_LEAST || Sizes::CELLS_MOST < n {
+            return false;
+        }
+        if m < Sizes::VARIABLES_LEAST || Sizes::VARIABLES_MOST < m {
+            return false;
+        }
+        if l < Sizes::ENTRIES_LEAST || Sizes::ENTRIES_MOST < l {
+            return false;
+        }
+        if cap < Sizes::CAP_LEAST || Sizes::CAP_MOST < cap {
+            return false;
+        }
+        true
+    }
 }
 
 // Beside the rows goes a head by value: the sizes, the first free address, the used lengths of ZCT and MRT.
@@ -66,28 +89,14 @@ impl Head {
 
     // Are the head's numbers within the limits?
     pub fn within(self) -> bool
-        ensures { λ r. ⌜ Says r (Limits self) ⌝ }
+        ensures { λ r. ⌜ Says r (Within self) ⌝ }
     {
-        let n = self.sizes.n;
-        let m = self.sizes.m;
-        let l = self.sizes.l;
-        let cap = self.sizes.cap;
-        let free = self.free;
-        let zct = self.zct;
-        let mrt = self.mrt;
-        if n < Sizes::CELLS_LEAST || Sizes::CELLS_MOST < n {
+        let sizes = self.sizes;
+        let n = sizes.n;
+        if !sizes.within() {
             return false;
         }
-        if m < Sizes::VARIABLES_LEAST || Sizes::VARIABLES_MOST < m {
-            return false;
-        }
-        if l < Sizes::ENTRIES_LEAST || Sizes::ENTRIES_MOST < l {
-            return false;
-        }
-        if cap < Sizes::CAP_LEAST || Sizes::CAP_MOST < cap {
-            return false;
-        }
-        if n < free || n < zct || n < mrt {
+        if n < self.free || n < self.zct || n < self.mrt {
             return false;
         }
         true
@@ -120,6 +129,14 @@ pub enum Call {
 pub struct Used {
     pub zct: usize,
     pub mrt: usize,
+}
+
+// Where a batch stands: the log's length, the first free address, the used lengths, the cells freed so far.
+pub struct State {
+    pub len: usize,
+    pub first: usize,
+    pub used: Used,
+    pub freed: usize,
 }
 
 // What an entry point returns: 0 or the number that says no, the head, the cells freed.

@@ -7,7 +7,7 @@ use lib.ListN.{length, drop, getD, drop-of-length-le}
 use borrow.Author.Tests.{eq-eqb, ne-eqb}
 use Rattle.rules.specs.declared.Used.{Used}
 use Rattle.rules.specs.Rules.{Tables, Transaction, allocates, creates, destroys, apply, replay}
-use Rattle.rules.specs.Rows.{Bounds, Ready, Logged}
+use Rattle.rules.specs.Whole.{Ready, Logged}
 use Rattle.cells.specs.Log.{transaction}
 use Rattle.settle.specs.Replaying.{Replayable}
 

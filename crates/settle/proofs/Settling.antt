@@ -13,7 +13,7 @@ use Rattle.rules.specs.Field.{variableOf}
 use Rattle.rules.specs.Rules.{Tables, Transaction, replay}
 use Rattle.rules.specs.Settle.{Heap, reclaim, replayed, settledBy, settled}
 use Rattle.rules.specs.Step.{settledIf}
-use Rattle.rules.specs.Rows.{Ready, Rows, Logged, Whole}
+use Rattle.rules.specs.Whole.{Ready, Rows, Logged, Whole}
 use Rattle.rules.proofs.Step.{settledBy-log, settledBy-variables}
 use Rattle.cells.specs.Marks.{Marks}
 use Rattle.cells.proofs.Logging.{logged-none}

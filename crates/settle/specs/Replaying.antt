@@ -3,7 +3,7 @@ use Prim.Native.Nat.{ℕ}
 use mathlib.Core.List.{List}
 use Rattle.rules.specs.declared.Used.{Used}
 use Rattle.rules.specs.Rules.{Tables, Transaction}
-use Rattle.rules.specs.Rows.{Bounds, Ready, Logged}
+use Rattle.rules.specs.Whole.{Ready, Logged}
 
 -- the rows of both tables are some tables, and the log's row has some entries
 pub record Replayable (n cap : ℕ) (log : List ℕ) (len : ℕ) (zs ms cs : List ℕ) (u : Used) : Type 0 where

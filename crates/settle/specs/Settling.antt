@@ -11,7 +11,7 @@ use Rattle.rules.specs.declared.Sizes.{Sizes}
 use Rattle.rules.specs.Field.{variableOf}
 use Rattle.rules.specs.Settle.{Heap, settledBy}
 use Rattle.rules.specs.Step.{settledIf}
-use Rattle.rules.specs.Rows.{Whole}
+use Rattle.rules.specs.Whole.{Whole}
 use Rattle.reclaim.specs.declared.Reclaimed.{Reclaimed}
 use Rattle.settle.specs.declared.Room.{Room}
 

@@ -9,7 +9,7 @@ ghost use Rattle.rules.specs.declared.Sizes.{Sizes};
 ghost use Rattle.rules.specs.Field.{variableOf};
 ghost use Rattle.rules.specs.Rules.{Tables, Transaction, apply, replay};
 ghost use Rattle.rules.specs.Settle.{Heap};
-ghost use Rattle.rules.specs.Rows.{Ready, Logged, Whole};
+ghost use Rattle.rules.specs.Whole.{Ready, Logged, Whole};
 ghost use Rattle.tables.specs.Row.{Tabled};
 ghost use Rattle.cells.specs.Log.{transaction};
 ghost use Rattle.settle.specs.Replaying.{Replayable};

@@ -8,7 +8,7 @@ use native.Mathlib.Omega.{arith}
 use lib.ListN.{length, take, getD, set, replicate, length-append, length-set}
 use lib.Seq.{length-take-le, take-at, set-append-left}
 use Rattle.rules.specs.Table.{has, insert, remove, pad, All, Below, Ascending}
-use Rattle.rules.specs.Rows.{Is}
+use Rattle.rules.specs.Whole.{Is}
 use Rattle.rules.proofs.Roundtrip.{length-pad}
 use Rattle.tables.specs.Row.{place, put, cut, Padded, Listed}
 use Rattle.tables.proofs.Laws.{length-put, length-cut, place-used}

@@ -11,7 +11,7 @@ use lib.Dec.{eqb}
 use Rattle.rules.specs.declared.Used.{Used}
 use Rattle.rules.specs.Table.{has, insert, remove, countIn, addresses, pad}
 use Rattle.rules.specs.Rules.{Tables, Transaction, allocates, creates, destroys, enterZct, leaveZct, enterMrt, leaveMrt, onCreate, onDestroy, apply}
-use Rattle.rules.specs.Rows.{Is, Kept, Ready, Bounds}
+use Rattle.rules.specs.Whole.{Is, Kept, Ready}
 use Rattle.rules.proofs.Invariant.{named}
 use Rattle.rules.proofs.Sorted.{insert-up, all-insert, leaveZct-kept, apply-kept}
 use Rattle.tables.specs.Row.{cut, Listed, Counted, Pair, Tabled}

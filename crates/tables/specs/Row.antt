@@ -8,7 +8,7 @@ use lib.ListN.{length, take, drop}
 use Rattle.rules.specs.declared.Used.{Used}
 use Rattle.rules.specs.Table.{Entry, addresses, counts, pad, All, Below, Ascending}
 use Rattle.rules.specs.Rules.{Tables}
-use Rattle.rules.specs.Rows.{Is, Ready, Bounds}
+use Rattle.rules.specs.Whole.{Is, Ready}
 
 -- the place of a in z: how many entries come before the first that is not below a
 abbrev pub place : ℕ → List ℕ → ℕ

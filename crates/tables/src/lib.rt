@@ -6,7 +6,7 @@ ghost use Prim.Native.Nat.{ℕ, _+_, _-_, _≤_, _<_};
 ghost use lib.ListN.{length, take, drop};
 ghost use Rattle.rules.specs.Table.{Ascending, has, pad, insert, remove, countIn};
 ghost use Rattle.rules.specs.Rules.{Tables, allocates, creates, destroys, onCreate, onDestroy, apply};
-ghost use Rattle.rules.specs.Rows.{Is, Ready};
+ghost use Rattle.rules.specs.Whole.{Is, Ready};
 ghost use Rattle.tables.specs.Row.{place, put, cut, Moved, Padded, Listed, Counted, Pair, Tabled};
 use rules::Used;
 

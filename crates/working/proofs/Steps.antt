@@ -19,7 +19,7 @@ use Rattle.rules.specs.Step.{Stepped, done, refused, settledIf, full, noneFree,
 use Rattle.before.specs.Seen.{needs, Shown, Reaches}
 use Rattle.calls.specs.Doing.{acted, Did, Able}
 use Rattle.rules.specs.declared.Used.{Used}
-use Rattle.rules.specs.Rows.{Whole}
+use Rattle.rules.specs.Whole.{Whole}
 use Rattle.rules.proofs.Tests.{not-first}
 use Rattle.rules.proofs.Invariant.{Inv}
 use Rattle.rules.proofs.Fine.{Fine}

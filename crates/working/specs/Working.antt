@@ -15,7 +15,8 @@ use Rattle.rules.specs.Settle.{Heap, settled}
 use Rattle.rules.specs.Call.{Answer, answer, callsIn}
 use Rattle.rules.specs.Step.{full, noneFree, calls}
 use Rattle.rules.specs.Step as rules
-use Rattle.rules.specs.Rows.{Whole, Lent, rowsOf, headOf}
+use Rattle.rules.specs.Rows.{Lent, rowsOf, headOf}
+use Rattle.rules.specs.Whole.{Whole}
 use Rattle.rules.specs.Refusals.{outcome, answered}
 use Rattle.rules.proofs.Invariant.{Inv}
 use Rattle.rules.proofs.Fine.{Fine}

@@ -6,7 +6,7 @@ use native.Mathlib.Omega.{arith}
 use Prim.Native.Nat.{ℕ, _≤_, _-_, zero-le}
 use lib.ListN.{length}
 use Rattle.rules.specs.Settle.{Heap}
-use Rattle.rules.specs.Rows.{Rows}
+use Rattle.rules.specs.Whole.{Rows}
 use Rattle.cells.specs.Marks.{Marks}
 use Rattle.reclaim.proofs.Reclaiming.{Going, going-first, going-next, scan, done-early, done-late, heaped, Lengths, lengths}
 use Rattle.reclaim.proofs.reclaim.Statement.{statement}

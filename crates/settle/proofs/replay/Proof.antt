@@ -4,7 +4,7 @@ use mathlib.Core.List.{List}
 use Prim.Native.Nat.{ℕ, _-_, _≤_, zero-le}
 use native.Mathlib.Omega.{arith}
 use Rattle.rules.specs.Rules.{Tables, Transaction}
-use Rattle.rules.specs.Rows.{Ready, Logged}
+use Rattle.rules.specs.Whole.{Ready, Logged}
 use Rattle.tables.proofs.Steps.{tabled}
 use Rattle.settle.proofs.Replaying.{Replaying, replaying-first, replaying-next, replaying-done, entry-small}
 use Rattle.settle.proofs.replay.Statement.{statement}

@@ -1,27 +1,29 @@
-use borrow.Author.Tests.{ltb-true, ltb-false}
-use Rattle.rules.proofs.Answers.{is, isn't}
+-- `rules::Head::within` says that the sizes, the free address and the used lengths are within the limits. Assumes nothing.
+use borrow.Author.Needs.{needs}
+use borrow.Author.Tests.{ltb-true, ltb-false, not-true, not-false}
 use native.Mathlib.Omega.{arith}
 use mathlib.Core.Logic.{⊎-elim}
+use Rattle.rules.proofs.Answers.{is, isn't}
 use Rattle.rules.proofs.Head.within.Statement.{statement}
 use Rattle.rules.proofs.Head.within.Tie as tie
 
+within-requires : tie.Need-within-requires
+within-requires c κs = search needs
+
 returns : tie.Need-returns
-returns c = isn't (λ s. let u = s .n-least in let v = s .n-most in ⊎-elim (λ w. omega (arith, ltb-true)) (λ w. omega (arith, ltb-true)) (c .if1 .came))
+returns c =
+    let w : tie.After-within = search needs in
+    isn't (λ s. w .within .ensures .no (not-true (w .within .result) (c .if1 .taken)) (s .limits))
 
 returns-2 : tie.Need-returns-2
-returns-2 c = isn't (λ s. let u = s .m-least in let v = s .m-most in ⊎-elim (λ w. omega (arith, ltb-true)) (λ w. omega (arith, ltb-true)) (c .if3 .came))
+returns-2 c = isn't (λ s. let u = s .free-most in let v = s .zct-most in let x = s .mrt-most in ⊎-elim (λ w. omega (arith, ltb-true)) (λ w. ⊎-elim (λ y. omega (arith, ltb-true)) (λ y. omega (arith, ltb-true)) w) (c .if2 .came))
 
 returns-3 : tie.Need-returns-3
-returns-3 c = isn't (λ s. let u = s .l-least in let v = s .l-most in ⊎-elim (λ w. omega (arith, ltb-true)) (λ w. omega (arith, ltb-true)) (c .if5 .came))
-
-returns-4 : tie.Need-returns-4
-returns-4 c = isn't (λ s. let u = s .cap-least in let v = s .cap-most in ⊎-elim (λ w. omega (arith, ltb-true)) (λ w. omega (arith, ltb-true)) (c .if7 .came))
-
-returns-5 : tie.Need-returns-5
-returns-5 c = isn't (λ s. let u = s .free-most in let v = s .zct-most in let x = s .mrt-most in ⊎-elim (λ w. omega (arith, ltb-true)) (λ w. ⊎-elim (λ y. omega (arith, ltb-true)) (λ y. omega (arith, ltb-true)) w) (c .if9 .came))
-
-returns-6 : tie.Need-returns-6
-returns-6 c = is (omega (arith, ltb-false))
+returns-3 c =
+    let w : tie.After-within = search needs in
+    let e : tie.Else1 = search needs in
+    let l = w .within .ensures .yes (not-false (w .within .result) (e .if1 .left)) in
+    is (record { limits = l; free-most = omega (arith, ltb-false); zct-most = omega (arith, ltb-false); mrt-most = omega (arith, ltb-false) })
 
 pub within-spec : {M : Type 1} → statement M
-within-spec = tie.close (tie.spec returns returns-2 returns-3 returns-4 returns-5 returns-6)
+within-spec = tie.close (tie.spec within-requires returns returns-2 returns-3)
