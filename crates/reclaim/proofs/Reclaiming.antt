@@ -21,7 +21,8 @@ use Rattle.rules.specs.Settle.{Heap, holds, pick, drops, freeCell, reclaim}
 use Rattle.rules.specs.Whole.{Rows}
 use Rattle.rules.proofs.Invariant.{View, view}
 use Rattle.rules.proofs.Tables.{view-other, remove-other}
-use Rattle.rules.proofs.Reclaim.{replay-append, reclaim-last}
+use Rattle.rules.proofs.Sorted.{replay-append}
+use Rattle.rules.proofs.Reclaim.{reclaim-last}
 use Rattle.rules.proofs.Unique.{is-take}
 use Rattle.tables.specs.Row.{place}
 use Rattle.tables.proofs.Laws.{place-upto, place-used}

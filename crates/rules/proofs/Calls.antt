@@ -23,8 +23,8 @@ use Rattle.rules.specs.Call.{var, at, isHeld, isCell, want, orElse, chec
 use Rattle.rules.specs.Head.{Limits}
 use Rattle.rules.proofs.Invariant.{hit, refs, used, live, Counted, Good, Fitting, Small}
 use Rattle.rules.proofs.Exact.{gains, drop-counted, gain-counted}
-use Rattle.rules.proofs.Sorted.{small-append}
-use Rattle.rules.proofs.Reclaim.{live-in, live-below, place-in, place-in-1, live-store-0, live-store-1, refs-store, length-store, replay-append, cell-live, drops-small, lives, lives-store}
+use Rattle.rules.proofs.Sorted.{small-append, replay-append}
+use Rattle.rules.proofs.Cells.{live-in, live-below, place-in, place-in-1, live-store-0, live-store-1, refs-store, length-store, cell-live, drops-small, lives, lives-store}
 
 -- ---- what the code and the limits promise of a call
 

@@ -26,14 +26,14 @@ use Rattle.rules.specs.Run.{ours, said}
 use Rattle.rules.specs.Demands.{handedOut, freeCells, newWords, Demand2}
 use Rattle.rules.proofs.Invariant.{Inv}
 use Rattle.rules.proofs.Tests.{sound-true, sound-false}
-use Rattle.rules.proofs.Reclaim.{lives}
+use Rattle.rules.proofs.Cells.{lives}
 use Rattle.rules.proofs.Calls.{AllFit, calls-in-fit}
 use Rattle.rules.proofs.Step.{settled-done, step-inv}
-use Rattle.rules.proofs.Facts as facts
 use Rattle.rules.proofs.Roundtrip.{rows-of-heap}
 use Rattle.rules.proofs.Whole.{twice}
 use Rattle.rules.proofs.Entry.{entry-ended, exit-ended, exit-sized, exit-sound}
 use Rattle.rules.proofs.Demand1.{Taken, taken, same-calls, answers-long, audit-0, audit-4, demand-1}
+use Rattle.rules.proofs.Facts as facts
 
 -- ---- free cells and cells in use
 
@@ -187,7 +187,7 @@ demand-2 =
       exact-below-cap = λ h r ws row s.
           let t = taken h r ws row s in
           let u = exit-sound (t .sized) (t .sound) (t .callable .calls) (taken-fit t) row in
-          rw (t .left) (record { none = u .none; many = u .exact; one = u .one });
+          rw (t .left) (u .agree);
       frees-all = λ h r ws row s.
           let t = taken h r ws row s in
           rw (t .left) (all-held (t .sized) (t .sound) (t .callable .calls) (taken-fit t) row);

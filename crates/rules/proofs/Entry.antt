@@ -24,24 +24,7 @@ fields-long (k ∷ ks) (v ∷ vs) e = ap suc (fields-long ks vs (omega arith))
 
 -- soundness does not look at the work row
 sound-cleared : {h : Head} {r : Lent} → Sound h r → Sound h (cleared h r)
-sound-cleared S =
-    record {
-      words = S .words;
-      variables = S .variables;
-      zct-row = S .zct-row;
-      mrt-row = S .mrt-row;
-      zct-zeros = S .zct-zeros;
-      mrt-zeros = S .mrt-zeros;
-      counts-zeros = S .counts-zeros;
-      free-list = S .free-list;
-      apart = S .apart;
-      one = S .one;
-      none = S .none;
-      held = S .held;
-      exact = S .exact;
-      ranged = S .ranged;
-      log-zero = S .log-zero;
-    }
+sound-cleared S = record { cells = S .cells; tables = S .tables; free-list = S .free-list; agree = S .agree; held = S .held; log-zero = S .log-zero }
 
 module _ {h : Head} {r : Lent} (Z : Sized h r) (S : Sound h r) where
   plain : Plain (h .sizes) (heapOf h r)

@@ -24,9 +24,10 @@ use Rattle.rules.specs.Step.{Stepped, done, refused, settledIf, full, no
 use Rattle.rules.specs.Head.{Limits}
 use Rattle.rules.proofs.Invariant.{refs, live, count, Inv, Ended}
 use Rattle.rules.proofs.Tables.{eqb-self}
-use Rattle.rules.proofs.Sorted.{pick-least, replay-kept}
-use Rattle.rules.proofs.Reclaim.{pick-some, pick-none, lives, lives-taken, reclaim-idle, reclaim-kept, reclaim-live, taken-when, live-store-0}
-use Rattle.rules.proofs.FreeList.{frees-none, field-same, field-across}
+use Rattle.rules.proofs.Sorted.{replay-kept}
+use Rattle.rules.proofs.Cells.{lives, lives-taken, live-store-0, field-same, field-across}
+use Rattle.rules.proofs.Reclaim.{pick-least, pick-some, pick-none, reclaim-idle, reclaim-kept, reclaim-live, taken-when}
+use Rattle.rules.proofs.FreeList.{frees-none}
 use Rattle.rules.proofs.Calls.{Fits, AllFit, act-lives}
 use Rattle.rules.proofs.Step.{SameCheck, settledBy-good, settledBy-sum, settled-done, settled-inv, settledIf-inv, taken, room-check, step-inv, counted-from-0}
 

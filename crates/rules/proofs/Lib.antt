@@ -6,6 +6,8 @@ pub mod Tests
 pub mod Tables
 pub mod Exact
 pub mod Sorted
+pub mod Cells
+pub mod Turn
 pub mod Reclaim
 pub mod FreeList
 pub mod Calls

@@ -1,5 +1,5 @@
 -- A heap against the endless heap: the same answers, through a renaming of the cells in use. Assumes nothing.
-use Prim.Native.Nat.{ℕ, zero, suc, _+_, _*_, _<_}
+use Prim.Native.Nat.{ℕ, zero, suc, _*_, _<_}
 use mathlib.Core.Path.{_≡_, refl, sym, ap, ap₂, _∙_}
 use mathlib.Core.Logic.{_⊎_, inl, inr}
 use mathlib.Core.Bool.{Bool, true, false, _||_, or-true, cond, true≢false}
@@ -17,7 +17,8 @@ use Rattle.rules.specs.declared.Call.{Call}
 use Rattle.rules.specs.declared.Call.the-variants.{New, Copy, Clear, Link, Put, Blank, Follow, Read, Same, Settle}
 use Rattle.rules.specs.declared.Sizes.{Sizes}
 use Rattle.rules.specs.Rules.{Tables, replay}
-use Rattle.rules.specs.Settle.{Shape, Heap, holds, pick, place, field, store, freeCell, replayed, settledBy, settled}
+use Rattle.rules.specs.Table.{has}
+use Rattle.rules.specs.Settle.{Shape, Heap, holds, place, field, store, freeCell, replayed, settledBy, settled}
 use Rattle.rules.specs.Call.{var, at, isHeld, isCell, isFigure, want, check, logs, write, hold, toCell, target, act, figureOf, sameCell, value, answer}
 use Rattle.rules.specs.Step.{Stepped, done, refused, settledIf, full, noneFree, takeCell, doNew, doSettle, doCall, room, run, step, fresh}
 use Rattle.rules.specs.Endless.{Endless, endless, EndlessStep, endlessRun, endlessStep}
@@ -25,8 +26,10 @@ use Rattle.rules.specs.Run.{NotSettle}
 use Rattle.rules.specs.Head.{Limits}
 use Rattle.rules.proofs.Invariant.{used, live, Good, Inv}
 use Rattle.rules.proofs.Tables.{eqb-self}
-use Rattle.rules.proofs.Reclaim.{place-in, cell-live, live-store-0, length-store, freeCell-lives, reclaim-keeps}
-use Rattle.rules.proofs.FreeList.{Taken, field-other, field-same, field-across}
+use Rattle.rules.proofs.Cells.{place-in, cell-live, live-store-0, length-store, field-other, field-same, field-across}
+use Rattle.rules.proofs.Turn.{turn-field, turn-stays}
+use Rattle.rules.proofs.Reclaim.{reclaim-keeps}
+use Rattle.rules.proofs.FreeList.{Taken}
 use Rattle.rules.proofs.Calls.{Fits, held-11, two-11, toCell-used, var-live, store-live}
 use Rattle.rules.proofs.Step.{settledIf-inv, taken}
 use Rattle.rules.proofs.Fresh.{dead}
@@ -231,24 +234,18 @@ sim-less ρ h h′ e v l f R =
 
 pub sim-settled : (s : Sizes) → Limits s → (h : Heap) → Inv s h → (ρ : ℕ → ℕ) (e : Endless) → Sim ρ (h .shape) e → Sim ρ (settled s h .shape) e
 unfolding settled settledBy replayed freeCell
-sim-settled s ok h g ρ e R = reclaim-keeps (s .n) (s .cap) (ok .cap-least) hs (λ k. Sim ρ (k .shape) e) turn (s .n) (replayed (s .cap) h) (g .good) R
+sim-settled s ok h g ρ e = reclaim-keeps (s .n) (s .cap) (ok .cap-least) (h .shape .variables) (λ k. Sim ρ (k .shape) e)
+    (λ h g a i u. sim-less ρ (h .shape) (freeCell (s .cap) a h .shape) e refl
+    (λ b l. stays h g a i u b l .1)
+    (λ b f l k. turn-field (s .n) (s .cap) (ok .cap-least) hs h g a i u b f (stays h g a i u b l .0) k))
+    (s .n) (replayed (s .cap) h) (g .good)
   where
     hs : List (Option ℕ)
     hs = h .shape .variables
 
-    turn : (h : Heap) (a : ℕ) → Good (s .n) (s .cap) (h .shape .fields) hs (h .tables) → pick hs (h .tables .zct) ≡ some a → Sim ρ (h .shape) e → Sim ρ (freeCell (s .cap) a h .shape) e
-    turn h a g p R = sim-less ρ (h .shape) (freeCell (s .cap) a h .shape) e refl (λ b l. was b l (eqb b a) refl .0) (λ b f l k. was b l (eqb b a) refl .1 f k) R
-      where
-        lives : (b : ℕ) → live (freeCell (s .cap) a h .shape .fields) b ≡ cond (eqb b a) false (live (h .shape .fields) b)
-        lives = freeCell-lives (s .n) (s .cap) (ok .cap-least) hs h g a p
-
-        was : (b : ℕ) → live (freeCell (s .cap) a h .shape .fields) b ≡ true → (q : Bool) → eqb b a ≡ q
-            → (live (h .shape .fields) b ≡ true) × ((f : ℕ) → f < 2 → field (freeCell (s .cap) a h .shape .fields) b f ≡ field (h .shape .fields) b f)
-        was b l true d = absurd (true≢false (sym l ∙ lives b ∙ rw d))
-        was b l false d = (
-          rw (lives b, d) at l,
-          λ f k. field-other (store (h .shape .fields) a 0 (Free (h .first))) a b 1 f Nothing d (omega arith) k ∙ field-other (h .shape .fields) a b 0 f (Free (h .first)) d (omega arith) k,
-        )
+    stays : (h : Heap) → Good (s .n) (s .cap) (h .shape .fields) hs (h .tables) → (a : ℕ) → has a (h .tables .zct) ≡ true → holds a hs ≡ false
+        → (b : ℕ) → live (freeCell (s .cap) a h .shape .fields) b ≡ true → (eqb b a ≡ false) × (live (h .shape .fields) b ≡ true)
+    stays = turn-stays (s .n) (s .cap) (ok .cap-least) hs
 
 map-agree : (ρ σ : ℕ → ℕ) (vs : List (Option ℕ)) → ((a : ℕ) → holds a vs ≡ true → σ a ≡ ρ a) → map (ren ρ) vs ≡ map (ren σ) vs
 map-agree ρ σ [] p = refl

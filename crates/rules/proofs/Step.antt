@@ -23,8 +23,9 @@ use Rattle.rules.proofs.Tests.{not-first}
 use Rattle.rules.specs.Head.{Limits}
 use Rattle.rules.proofs.Invariant.{refs, live, view, Counted, Good, Frees, Small, Inv, Done, Ended}
 use Rattle.rules.proofs.Tables.{view-own, view-other, change}
-use Rattle.rules.proofs.Sorted.{replay-kept, small-append}
-use Rattle.rules.proofs.Reclaim.{live-store-0, refs-store, length-store, replay-append, lives, lives-le, Plain1, Figures, plain-store, plain-store-0, figures-store, reclaim-good, reclaim-leaves, reclaim-sum, reclaim-plain, reclaim-figures, reclaim-kept}
+use Rattle.rules.proofs.Sorted.{replay-kept, small-append, replay-append}
+use Rattle.rules.proofs.Cells.{live-store-0, refs-store, length-store, lives, lives-le, Plain1, Figures, plain-store, plain-store-0, figures-store}
+use Rattle.rules.proofs.Reclaim.{reclaim-good, reclaim-done, reclaim-leaves, reclaim-sum, reclaim-plain, reclaim-figures, reclaim-kept}
 use Rattle.rules.proofs.FreeList.{Taken, frees-store, frees-take, reclaim-frees}
 use Rattle.rules.proofs.Calls.{Fits, AllFit, holds-set, call-good, act-keeps, act-variables, logs-small, logs-long, store-live}
 
@@ -50,11 +51,11 @@ module _ (s : Sizes) (ok : Limits s) (hs : List (Option ℕ)) (h : Heap)
 
   pub settledBy-good : Good (s .n) (s .cap) (settledBy s hs h .shape .fields) hs (settledBy s hs h .tables)
   unfolding settledBy replayed
-  settledBy-good = reclaim-good (s .n) (s .cap) (ok .cap-least) hs (s .n) (replayed (s .cap) h) g few .0
+  settledBy-good = reclaim-good (s .n) (s .cap) (ok .cap-least) hs (s .n) (replayed (s .cap) h) g
 
   pub settledBy-done : Done hs (settledBy s hs h)
   unfolding settledBy replayed
-  settledBy-done = reclaim-good (s .n) (s .cap) (ok .cap-least) hs (s .n) (replayed (s .cap) h) g few .1
+  settledBy-done = reclaim-done (s .n) (s .cap) (ok .cap-least) hs (s .n) (replayed (s .cap) h) g few
 
   pub settledBy-sum : lives (settledBy s hs h .shape .fields) + settledBy s hs h .freed ≡ lives (h .shape .fields) + h .freed
   unfolding settledBy replayed
