@@ -19,7 +19,7 @@ use Rattle.rules.specs.Table.{has, Ascending}
 use Rattle.rules.specs.Rules.{Tables, destroys, leaveZct, apply, replay}
 use Rattle.rules.specs.Settle.{Heap, holds, pick, drops, freeCell, reclaim}
 use Rattle.rules.specs.Rows.{Rows}
-use Rattle.rules.proofs.Invariant.{View, view}
+use Rattle.rules.specs.Invariant.{View, view}
 use Rattle.rules.proofs.Tables.{view-other, remove-other}
 use Rattle.rules.proofs.Reclaim.{replay-append, reclaim-last}
 use Rattle.rules.proofs.Unique.{is-take}

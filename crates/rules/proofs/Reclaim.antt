@@ -16,7 +16,7 @@ use Rattle.rules.specs.Table.{has, countIn}
 use Rattle.rules.specs.Rules.{Tables, Transaction, apply, replay, leaveZct}
 use Rattle.rules.specs.Settle.{Heap, drops, holds, pick, onPick, place, field, store, freeCell, reclaim}
 use Rattle.rules.specs.Rows.{Kept}
-use Rattle.rules.proofs.Invariant.{hit, refs, used, live, view, count, okOf, Counted, Good, Done, Fitting, Small}
+use Rattle.rules.specs.Invariant.{hit, refs, used, live, view, count, okOf, Counted, Good, Done, Fitting, Small}
 use Rattle.rules.proofs.Tables.{eqb-self, remove-own, remove-other}
 use Rattle.rules.proofs.Sorted.{leaveZct-kept, replay-kept, small-append}
 use Rattle.rules.proofs.Exact.{refs-set, drop-counted}
@@ -114,7 +114,6 @@ cell-live n cap fs hs t g a f b h l e = go (live fs b) refl
 
 -- the destroy that goes with a field names a cell below n
 pub drops-small : (n cap : ℕ) (fs : List Field) (hs : List (Option ℕ)) (t : Tables) → Good n cap fs hs t → (a f : ℕ) → f < 2 → live fs a ≡ true → Small n (drops (field fs a f))
-unfolding drops
 drops-small n cap fs hs t g a f h l = go (field fs a f) refl
   where
     go : (x : Field) → field fs a f ≡ x → Small n (drops x)

@@ -11,7 +11,7 @@ use Rattle.rules.specs.Table.{Entry, entry, has, insert, remove, countIn
 use Rattle.rules.specs.Rules.{Tables, Transaction, allocates, creates, destroys, enterZct, leaveZct, enterMrt, leaveMrt, onCreate, onDestroy, apply, replay}
 use Rattle.rules.specs.Settle.{holds, pick}
 use Rattle.rules.specs.Rows.{Kept}
-use Rattle.rules.proofs.Invariant.{named, Small}
+use Rattle.rules.specs.Invariant.{named, Small}
 
 -- ---- every entry has P
 

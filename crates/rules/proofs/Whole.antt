@@ -19,7 +19,7 @@ use Rattle.rules.specs.Rules.{Transaction, allocates, creates, destroys}
 use Rattle.rules.specs.Settle.{Heap, place, field}
 use Rattle.rules.specs.Rows.{Lent, lent, words, rowsOf, headOf, heapOf, Inside, Logged, Whole}
 use Rattle.rules.specs.Sound.{times, Sound, Sized}
-use Rattle.rules.proofs.Invariant.{used, live, Chain, Small, Inv}
+use Rattle.rules.specs.Invariant.{used, live, Chain, Small, Inv}
 use Rattle.rules.proofs.Reclaim.{live-below}
 use Rattle.rules.proofs.Fine.{Fine, fine-of}
 use Rattle.rules.proofs.Calls.{holds-var}

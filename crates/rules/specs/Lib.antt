@@ -8,6 +8,7 @@ pub mod Call
 pub mod Step
 pub mod Rows
 pub mod Sound
+pub mod Invariant
 pub mod Decide
 pub mod Refusals
 pub mod Endless
