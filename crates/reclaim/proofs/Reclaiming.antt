@@ -19,7 +19,7 @@ use Rattle.rules.specs.Table.{has, Ascending}
 use Rattle.rules.specs.Rules.{Tables, destroys, leaveZct, apply, replay}
 use Rattle.rules.specs.Settle.{Heap, holds, pick, drops, freeCell, reclaim}
 use Rattle.rules.specs.Whole.{Rows}
-use Rattle.rules.proofs.Invariant.{View, view}
+use Rattle.rules.specs.Invariant.{View, view}
 use Rattle.rules.proofs.Tables.{view-other, remove-other}
 use Rattle.rules.proofs.Sorted.{replay-append}
 use Rattle.rules.proofs.Reclaim.{reclaim-last}
@@ -30,9 +30,9 @@ use Rattle.tables.proofs.Places.{has-place, has-at}
 use Rattle.tables.proofs.Single.{all-at, is-padded}
 use Rattle.cells.specs.Marks.{Marks}
 use Rattle.cells.proofs.Storing.{cell-lengths}
+use Rattle.reclaim.specs.Reclaiming.{lowTo, Heaped, Freed, Scan, Unheld, Done}
 use Rattle.reclaim.specs.declared.Turn.{Turn}
 use Rattle.reclaim.specs.declared.Reclaimed.{Reclaimed}
-use Rattle.reclaim.specs.Reclaiming.{lowTo, Heaped, Freed, Scan, Unheld, Done}
 
 -- ---- turns
 
