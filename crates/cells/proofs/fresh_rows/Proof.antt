@@ -4,28 +4,6 @@ use borrow.Author.Needs.{needs}
 use Rattle.cells.proofs.fresh_rows.Statement.{statement}
 use Rattle.cells.proofs.fresh_rows.Tie as tie
 
--- places, looked back at from later ones
-abbrev to-after-clear4 : tie.After-slice-known12 → tie.After-clear4
-to-after-clear4 c = search needs
-
-abbrev to-after-clear3 : tie.After-clear4 → tie.After-clear3
-to-after-clear3 c = search needs
-
-abbrev to-after-clear2 : tie.After-clear3 → tie.After-clear2
-to-after-clear2 c = search needs
-
-abbrev to-after-clear : tie.After-clear2 → tie.After-clear
-to-after-clear c = search needs
-
-abbrev to-after-fill-nothing : tie.After-clear → tie.After-fill-nothing
-to-after-fill-nothing c = search needs
-
-abbrev to-after-fresh-cells : tie.After-fill-nothing → tie.After-fresh-cells
-to-after-fresh-cells c = search needs
-
-abbrev to-start : tie.After-fresh-cells → tie.Start
-to-start c = search needs
-
 fresh-cells-requires : tie.Need-fresh-cells-requires
 fresh-cells-requires c κs = search needs
 
@@ -71,30 +49,29 @@ same-length-7 c = search needs
 same-length-8 : tie.Need-same-length-8
 same-length-8 c = search needs
 
+-- the places of the function, one after the other
+abbrev start : tie.After-fresh-cells → tie.Start
+start c = search needs
+
+abbrev cells : tie.After-clear → tie.After-fresh-cells
+cells c = search needs
+
+abbrev counted : tie.After-clear5 → tie.After-clear3
+counted c = search needs
+
+abbrev entered : tie.After-clear3 → tie.After-clear
+entered c = search needs
+
 returns : tie.Need-returns
 returns c =
-    let after-clear4 = to-after-clear4 c in
-    let after-clear3 = to-after-clear3 after-clear4 in
-    let after-clear2 = to-after-clear2 after-clear3 in
-    let after-clear = to-after-clear after-clear2 in
-    let after-fill-nothing = to-after-fill-nothing after-clear in
-    let after-fresh-cells = to-after-fresh-cells after-fill-nothing in
-    let start = to-start after-fresh-cells in
-    let p = start .pre in
-    let f = after-fresh-cells .fresh-cells .ensures in
-    rows-fresh
-    (f .0)
-    (f .1)
-    (after-fill-nothing .fill-nothing .ensures)
-    (after-clear .clear .ensures)
-    (after-clear2 .clear2 .ensures)
-    (after-clear3 .clear3 .ensures)
-    (after-clear4 .clear4 .ensures)
-    (c .before .before .clear5 .ensures)
-    (p .zct-long)
-    (p .mrt-long)
-    (p .counts-long)
-    (p .work-long)
+    let w : tie.After-clear5 = search needs in
+    let l : tie.After-clear4 = search needs in
+    let k = counted w in
+    let m : tie.After-clear2 = search needs in
+    let z = entered k in
+    let v : tie.After-fill-nothing = search needs in
+    let f = cells z in
+    rows-fresh (start f .pre) (f .fresh-cells .ensures .0) (f .fresh-cells .ensures .1) (v .fill-nothing .ensures) (z .clear .ensures) (m .clear2 .ensures) (k .clear3 .ensures) (l .clear4 .ensures) (w .clear5 .ensures)
 
 pub fresh-rows-spec : {M : Type 1} → statement M
 fresh-rows-spec =
