@@ -287,14 +287,40 @@ sound? h r =
     yes (record { cells = cells; tables = tables; free-list = free-list; agree = agree; held = held; log-zero = log-zero })))))))
 
 abbrev dec-limits : (s : Sizes) → Dec (Limits s)
-dec-limits s = map-dec (λ p. record { n-least = p .0; n-most = p .1 .0; m-least = p .1 .1 .0; m-most = p .1 .1 .1 .0; l-least = p .1 .1 .1 .1 .0; l-most = p .1 .1 .1 .1 .1 .0; cap-least = p .1 .1 .1 .1 .1 .1 .0; cap-most = p .1 .1 .1 .1 .1 .1 .1 }) (λ l. (l .n-least, (l .n-most, (l .m-least, (l .m-most, (l .l-least, (l .l-most, (l .cap-least, l .cap-most)))))))) (Dec·and (decLe 1 (s .n)) (Dec·and (decLe (s .n) 1024) (Dec·and (decLe 1 (s .m)) (Dec·and (decLe (s .m) 64) (Dec·and (decLe 2 (s .l)) (Dec·and (decLe (s .l) 1024) (Dec·and (decLe 3 (s .cap)) (decLe (s .cap) 255))))))))
+dec-limits s =
+    need (decLe 1 (s .n)) (λ l. l .n-least) (λ n-least.
+    need (decLe (s .n) 1024) (λ l. l .n-most) (λ n-most.
+    need (decLe 1 (s .m)) (λ l. l .m-least) (λ m-least.
+    need (decLe (s .m) 64) (λ l. l .m-most) (λ m-most.
+    need (decLe 2 (s .l)) (λ l. l .l-least) (λ l-least.
+    need (decLe (s .l) 1024) (λ l. l .l-most) (λ l-most.
+    need (decLe 3 (s .cap)) (λ l. l .cap-least) (λ cap-least.
+    need (decLe (s .cap) 255) (λ l. l .cap-most) (λ cap-most.
+    yes (record { n-least = n-least; n-most = n-most; m-least = m-least; m-most = m-most; l-least = l-least; l-most = l-most; cap-least = cap-least; cap-most = cap-most })))))))))
 
 abbrev dec-within : (h : Head) → Dec (Within h)
-dec-within h = map-dec (λ p. record { limits = p .0; free-most = p .1 .0; zct-most = p .1 .1 .0; mrt-most = p .1 .1 .1 }) (λ l. (l .limits, (l .free-most, (l .zct-most, l .mrt-most)))) (Dec·and (dec-limits (h .sizes)) (Dec·and (decLe (h .free) (h .sizes .n)) (Dec·and (decLe (h .zct) (h .sizes .n)) (decLe (h .mrt) (h .sizes .n)))))
+dec-within h =
+    need (dec-limits (h .sizes)) (λ w. w .limits) (λ limits.
+    need (decLe (h .free) (h .sizes .n)) (λ w. w .free-most) (λ free-most.
+    need (decLe (h .zct) (h .sizes .n)) (λ w. w .zct-most) (λ zct-most.
+    need (decLe (h .mrt) (h .sizes .n)) (λ w. w .mrt-most) (λ mrt-most.
+    yes (record { limits = limits; free-most = free-most; zct-most = zct-most; mrt-most = mrt-most })))))
 
-abbrev dec-lengths : (h : Head) (kinds values vars zct mrt counts log work : ℕ) → Dec (Lengths h kinds values vars zct mrt counts log work)
-dec-lengths h kinds values vars zct mrt counts log work = map-dec (λ p. record { for-kinds = p .0; for-values = p .1 .0; for-variables = p .1 .1 .0; for-zct = p .1 .1 .1 .0; for-mrt = p .1 .1 .1 .1 .0; for-counts = p .1 .1 .1 .1 .1 .0; for-log = p .1 .1 .1 .1 .1 .1 .0; for-work = p .1 .1 .1 .1 .1 .1 .1 }) (λ l. (l .for-kinds, (l .for-values, (l .for-variables, (l .for-zct, (l .for-mrt, (l .for-counts, (l .for-log, l .for-work)))))))) (Dec·and (ℕ-discrete kinds (2 * h .sizes .n)) (Dec·and (ℕ-discrete values (2 * h .sizes .n)) (Dec·and (ℕ-discrete vars (h .sizes .m)) (Dec·and (ℕ-discrete zct (h .sizes .n)) (Dec·and (ℕ-discrete mrt (h .sizes .n)) (Dec·and (ℕ-discrete counts (h .sizes .n)) (Dec·and (ℕ-discrete log (2 * h .sizes .l)) (ℕ-discrete work (h .sizes .n)))))))))
+abbrev dec-lengths : (h : Head) (kinds values variables zct mrt counts log work : ℕ) → Dec (Lengths h kinds values variables zct mrt counts log work)
+dec-lengths h kinds values variables zct mrt counts log work =
+    need (ℕ-discrete kinds (2 * h .sizes .n)) (λ l. l .for-kinds) (λ for-kinds.
+    need (ℕ-discrete values (2 * h .sizes .n)) (λ l. l .for-values) (λ for-values.
+    need (ℕ-discrete variables (h .sizes .m)) (λ l. l .for-variables) (λ for-variables.
+    need (ℕ-discrete zct (h .sizes .n)) (λ l. l .for-zct) (λ for-zct.
+    need (ℕ-discrete mrt (h .sizes .n)) (λ l. l .for-mrt) (λ for-mrt.
+    need (ℕ-discrete counts (h .sizes .n)) (λ l. l .for-counts) (λ for-counts.
+    need (ℕ-discrete log (2 * h .sizes .l)) (λ l. l .for-log) (λ for-log.
+    need (ℕ-discrete work (h .sizes .n)) (λ l. l .for-work) (λ for-work.
+    yes (record { for-kinds = for-kinds; for-values = for-values; for-variables = for-variables; for-zct = for-zct; for-mrt = for-mrt; for-counts = for-counts; for-log = for-log; for-work = for-work })))))))))
 
 -- are the head's numbers within the limits, and the rows' lengths those that it says?
 unfoldable pub sized? : (h : Head) (r : Lent) → Dec (Sized h r)
-sized? h r = map-dec (λ p. record { within = p .0; lengths = p .1 }) (λ z. (z .within, z .lengths)) (Dec·and (dec-within h) (dec-lengths h (length (r .kinds)) (length (r .values)) (length (r .variables)) (length (r .tables .zct)) (length (r .tables .mrt)) (length (r .tables .counts)) (length (r .log)) (length (r .work))))
+sized? h r =
+    need (dec-within h) (λ z. z .within) (λ within.
+    need (dec-lengths h (length (r .kinds)) (length (r .values)) (length (r .variables)) (length (r .tables .zct)) (length (r .tables .mrt)) (length (r .tables .counts)) (length (r .log)) (length (r .work))) (λ z. z .lengths) (λ lengths.
+    yes (record { within = within; lengths = lengths })))
