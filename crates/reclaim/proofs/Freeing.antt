@@ -29,7 +29,7 @@ module _ {b : ℕ} (f : Field) (e : f ≡ Cell b) where
   pub let-go : {cap : ℕ} {zs ms cs zs′ ms′ cs′ : List ℕ} {u u′ : Used}
       → ((n : ℕ) (t : Tables) → Ready n cap zs ms cs u t → Ready n cap zs′ ms′ cs′ u′ (apply cap (destroys b) t))
       → (n : ℕ) (t : Tables) → Ready n cap zs ms cs u t → Ready n cap zs′ ms′ cs′ u′ (replay cap (drops f) t)
-  unfolding drops replay
+  unfolding replay
   let-go g n t R = rw e (g n t R)
 
 -- field 0 stands at 2a, field 1 at 2a+1

@@ -104,7 +104,7 @@ low-le low b = go (ltb b low) refl
 
 -- below low nothing comes in with a field that is let go
 has-gone : (cap low w : ℕ) (f : Field) (t : Tables) → w < lowTo low f → has w (replay cap (drops f) t .zct) ≡ true → (w < low) × (has w (t .zct) ≡ true)
-unfolding drops replay
+unfolding replay
 has-gone cap low w Nothing t l h = (l, h)
 has-gone cap low w (Figure x) t l h = (l, h)
 has-gone cap low w (Free b) t l h = (l, h)
