@@ -31,7 +31,7 @@ module _ {b : ℕ} (f : Field) (e : f ≡ Cell b) where
   cell-inside I = rw e at I
 
   pub let-go : {cap : ℕ} {r r′ : TableRows} {u u′ : Used} → TablesBy cap (apply cap (destroys b)) r u r′ u′ → TablesBy cap (replay cap (drops f)) r u r′ u′
-  unfolding drops replay
+  unfolding replay
   let-go g n t R = rw e (g n t R)
 
 -- field 0 stands at 2a, field 1 at 2a+1

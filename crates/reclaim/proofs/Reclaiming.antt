@@ -19,9 +19,10 @@ use Rattle.rules.specs.Rules.{Tables, destroys, leaveZct, apply, replay}
 use Rattle.rules.specs.Settle.{Heap, holds, pick, drops, freeCell, reclaim}
 use Rattle.rules.specs.Rows.{HeapRows}
 use Rattle.rules.specs.Whole.{Rows}
-use Rattle.rules.proofs.Invariant.{View, view}
+use Rattle.rules.specs.Invariant.{View, view}
 use Rattle.rules.proofs.Tables.{view-other, remove-other}
-use Rattle.rules.proofs.Reclaim.{replay-append, reclaim-last}
+use Rattle.rules.proofs.Sorted.{replay-append}
+use Rattle.rules.proofs.Reclaim.{reclaim-last}
 use Rattle.rules.proofs.Unique.{is-take}
 use Rattle.tables.specs.Row.{place}
 use Rattle.tables.proofs.Laws.{place-upto, place-used}
@@ -29,8 +30,8 @@ use Rattle.tables.proofs.Places.{has-place, has-at}
 use Rattle.tables.proofs.Single.{all-at, is-padded}
 use Rattle.cells.specs.Marks.{Marks}
 use Rattle.cells.proofs.Storing.{cell-lengths}
-use Rattle.reclaim.specs.declared.Turn.{Turn}
 use Rattle.reclaim.specs.Reclaiming.{lowTo, Heaped, Freed, Scan, Unheld, Done}
+use Rattle.reclaim.specs.declared.Turn.{Turn}
 
 -- ---- turns
 
@@ -102,7 +103,7 @@ low-le low b = go (ltb b low) refl
 
 -- below low nothing comes in with a field that is let go
 has-gone : (cap low w : ℕ) (f : Field) (t : Tables) → w < lowTo low f → has w (replay cap (drops f) t .zct) ≡ true → (w < low) × (has w (t .zct) ≡ true)
-unfolding drops replay
+unfolding replay
 has-gone cap low w Nothing t l h = (l, h)
 has-gone cap low w (Figure x) t l h = (l, h)
 has-gone cap low w (Free b) t l h = (l, h)

@@ -7,12 +7,12 @@ use lib.IntN.{ℤ}
 use lib.ListN.{length, length-map}
 use Rattle.rules.specs.declared.Head.{Head}
 use Rattle.rules.specs.declared.Call.{Call}
+use Rattle.rules.specs.Call.{AllFit}
 use Rattle.rules.specs.Step.{batch}
 use Rattle.rules.specs.Rows.{Lent, fieldsOf, heapOf}
 use Rattle.rules.specs.Sound.{Sound, Sized}
 use Rattle.rules.specs.Refusals.{cleared, accepted}
-use Rattle.rules.proofs.Invariant.{Ended}
-use Rattle.rules.proofs.Calls.{AllFit}
+use Rattle.rules.specs.Invariant.{Ended}
 use Rattle.rules.proofs.Step.{batch-ended}
 use Rattle.rules.proofs.Roundtrip.{sized-of-ended, rows-of-heap, head-of-heap}
 use Rattle.rules.proofs.Bridge.{Plain, ended-sound, sound-ended}
@@ -24,24 +24,7 @@ fields-long (k ∷ ks) (v ∷ vs) e = ap suc (fields-long ks vs (omega arith))
 
 -- soundness does not look at the work row
 sound-cleared : {h : Head} {r : Lent} → Sound h r → Sound h (cleared h r)
-sound-cleared S =
-    record {
-      words = S .words;
-      variables = S .variables;
-      zct-row = S .zct-row;
-      mrt-row = S .mrt-row;
-      zct-zeros = S .zct-zeros;
-      mrt-zeros = S .mrt-zeros;
-      counts-zeros = S .counts-zeros;
-      free-list = S .free-list;
-      apart = S .apart;
-      one = S .one;
-      none = S .none;
-      held = S .held;
-      exact = S .exact;
-      ranged = S .ranged;
-      log-zero = S .log-zero;
-    }
+sound-cleared S = record { cells = S .cells; tables = S .tables; free-list = S .free-list; agree = S .agree; held = S .held; log-zero = S .log-zero }
 
 module _ {h : Head} {r : Lent} (Z : Sized h r) (S : Sound h r) where
   plain : Plain (h .sizes) (heapOf h r)
@@ -59,7 +42,7 @@ module _ {h : Head} {r : Lent} (Z : Sized h r) (S : Sound h r) where
       sound-ended (h .sizes) (Z .within .limits) (heapOf h r) plain
       (rw (head-of-heap Z, rows-of-heap Z S) (sound-cleared S))
 
-  module _ (cs : List Call) (F : AllFit (h .sizes) cs) where
+  module _ (cs : List Call) (F : AllFit (h .sizes .m) cs) where
     pub exit-ended : Ended (h .sizes) (batch (h .sizes) cs (heapOf h r) .heap)
     exit-ended = batch-ended (h .sizes) (Z .within .limits) cs (heapOf h r) (entry-ended .inv) F
 

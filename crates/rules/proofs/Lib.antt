@@ -1,11 +1,12 @@
 -- From the tables up to the demands.
 pub mod Against
 pub mod Answers
-pub mod Invariant
 pub mod Tests
 pub mod Tables
 pub mod Exact
 pub mod Sorted
+pub mod Cells
+pub mod Turn
 pub mod Reclaim
 pub mod FreeList
 pub mod Calls

@@ -21,7 +21,7 @@ use Rattle.rules.specs.Rows.{Lent, words, rowsOf, headOf, fieldsOf, entr
 use Rattle.rules.specs.Sound.{Word, Variable, ZeroFrom, Sound, Sized}
 use Rattle.rules.specs.Refusals.{cleared}
 use Rattle.rules.proofs.Positions.{half}
-use Rattle.rules.proofs.Invariant.{Chain, Inv, Ended}
+use Rattle.rules.specs.Invariant.{Chain, Inv, Ended}
 use Rattle.rules.specs.Head.{Limits}
 
 -- ---- written down and read back
@@ -163,7 +163,7 @@ module _ {h : Head} {r : Lent} (Z : Sized h r) where
         let g = half i in
         let k = g .is in
         let z = Z .lengths in
-        rw k (word-fits (h .sizes .n) (r .kinds) (g .cell) (g .part) _ _ (S .words (g .cell) (omega arith) (g .part) (g .small)))
+        rw k (word-fits (h .sizes .n) (r .kinds) (g .cell) (g .part) _ _ (S .cells .words (g .cell) (omega arith) (g .part) (g .small)))
 
     pub rows-of-heap : rowsOf (h .sizes) (heapOf h r) ≡ cleared h r
     unfolding rowsOf heapOf
@@ -174,12 +174,12 @@ module _ {h : Head} {r : Lent} (Z : Sized h r) where
         rw (
           kinds-again (r .kinds) (r .values) (omega arith) fits,
           values-again (r .kinds) (r .values) (omega arith) fits,
-          variables-again (h .sizes .n) (r .kinds) (r .variables) (S .variables),
-          pad-again (h .sizes .n) (h .zct) (r .tables .zct) (l .for-zct) (m .zct-most) (S .zct-zeros),
+          variables-again (h .sizes .n) (r .kinds) (r .variables) (S .cells .variables),
+          pad-again (h .sizes .n) (h .zct) (r .tables .zct) (l .for-zct) (m .zct-most) (S .tables .zct-row .zeros),
           addresses-again (take (h .mrt) (r .tables .mrt)) (take (h .mrt) (r .tables .counts)) e,
           counts-again (take (h .mrt) (r .tables .mrt)) (take (h .mrt) (r .tables .counts)) e,
-          pad-again (h .sizes .n) (h .mrt) (r .tables .mrt) (l .for-mrt) (m .mrt-most) (S .mrt-zeros),
-          pad-again (h .sizes .n) (h .mrt) (r .tables .counts) (l .for-counts) (m .mrt-most) (S .counts-zeros),
+          pad-again (h .sizes .n) (h .mrt) (r .tables .mrt) (l .for-mrt) (m .mrt-most) (S .tables .mrt-row .zeros),
+          pad-again (h .sizes .n) (h .mrt) (r .tables .counts) (l .for-counts) (m .mrt-most) (S .tables .counts-row .zeros),
           pad-again (2 * h .sizes .l) 0 (r .log) (l .for-log) zero-le (S .log-zero),
         )
 

@@ -1,17 +1,15 @@
 -- Both tables stay ascending, below n and with counts in range, so the cell that reclaiming takes is the smallest. Assumes nothing.
 use Prim.Native.Nat.{ℕ, zero, suc, _<_, _≤_}
-use mathlib.Core.Path.{_≡_, refl, sym, ap, _∙_, subst}
-use mathlib.Core.Bool.{Bool, true, false, _||_, cond, true≢false, false≢true}
-use mathlib.Core.Option.{Option, some}
+use mathlib.Core.Path.{_≡_, refl, sym, subst}
+use mathlib.Core.Bool.{Bool, true, false, _||_, cond, false≢true}
 use mathlib.Core.List.{List, [], _∷_, _++_}
 use native.Mathlib.Omega.{arith}
 use lib.Dec.{eqb, ltb}
 use borrow.Author.Tests.{eqb-true, eqb-false, ltb-true, ltb-false}
 use Rattle.rules.specs.Table.{Entry, entry, has, insert, remove, countIn, enter, delete, addresses, counts, All, Ascending}
 use Rattle.rules.specs.Rules.{Tables, Transaction, allocates, creates, destroys, enterZct, leaveZct, enterMrt, leaveMrt, onCreate, onDestroy, apply, replay}
-use Rattle.rules.specs.Settle.{holds, pick}
 use Rattle.rules.specs.Whole.{Kept}
-use Rattle.rules.proofs.Invariant.{named, Small}
+use Rattle.rules.specs.Invariant.{named, Small}
 
 -- ---- every entry has P
 
@@ -196,14 +194,7 @@ pub small-append : (n : ℕ) (l₁ l₂ : List Transaction) → Small n l₁ →
 small-append n [] l₂ a b = b
 small-append n (x ∷ l₁) l₂ a b = (a .0, small-append n l₁ l₂ (a .1) b)
 
--- the cell that reclaiming takes is the smallest that no hold names
-pub pick-least : (hs : List (Option ℕ)) (z : List ℕ) (a b : ℕ) → Ascending z → pick hs z ≡ some a → has b z ≡ true → holds b hs ≡ false → a ≤ b
-pick-least hs [] a b s e i u = absurd (false≢true i)
-pick-least hs (x ∷ z) a b s e i u = go (holds x hs) refl e (pick-least hs z a b (s .1)) (eqb b x) refl i
-  where
-    go : (p : Bool) → holds x hs ≡ p → cond p (pick hs z) (some x) ≡ some a → (pick hs z ≡ some a → has b z ≡ true → holds b hs ≡ false → a ≤ b)
-        → (q : Bool) → eqb b x ≡ q → (q || has b z) ≡ true → a ≤ b
-    go true d e ih true f i = absurd (true≢false (sym d ∙ ap (λ y. holds y hs) (sym (eqb-true b x f)) ∙ u))
-    go true d e ih false f i = ih e i u
-    go false d e ih true f i = let g : x ≡ a = cc in let k = eqb-true b x f in omega arith
-    go false d e ih false f i = let g : x ≡ a = cc in let k = all-has (λ y. x < y) b z (s .0) i in omega arith
+pub replay-append : (cap : ℕ) (l₁ l₂ : List Transaction) (t : Tables) → replay cap (l₁ ++ l₂) t ≡ replay cap l₂ (replay cap l₁ t)
+unfolding replay
+replay-append cap [] l₂ t = refl
+replay-append cap (x ∷ l₁) l₂ t = replay-append cap l₁ l₂ (apply cap x t)

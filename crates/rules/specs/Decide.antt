@@ -13,14 +13,19 @@ use Rattle.rules.specs.declared.Head.{Head}
 use Rattle.rules.specs.declared.Sizes.{Sizes}
 use Rattle.rules.specs.Head.{Limits, Within}
 use Rattle.rules.specs.Field.{addressOf}
-use Rattle.rules.specs.Rows.{Lent}
-use Rattle.rules.specs.Sound.{kind, word, mark, Live, Mark, Word, Words, Variables, TableRow, ZeroFrom, NotIn, Ranged, pointersTo, heldAmong, next, FreePath, listFrom, times, FreeList, Sound, Lengths, Sized}
+use Rattle.rules.specs.Rows.{TableRows, Lent}
+use Rattle.rules.specs.Sound.{kind, word, mark, Live, Mark, Word, Words, Variables, CellsSound, ZeroFrom, TableRow, CountsRow, TablesSound, next, FreePath, listFrom, times, FreeList, pointersTo, heldAmong, NotIn, Agree, ZctHeld, Sound, Lengths, Sized}
 
 -- ---- ways to decide
 
 abbrev map-dec : {A B : Type 0} → (A → B) → (B → A) → Dec A → Dec B
 map-dec f g (yes a) = yes (f a)
 map-dec f g (no d) = no (λ b. d (g b))
+
+-- a part of a whole: its decision, where the whole has it, and how the others are decided once it holds
+abbrev need : {P R : Type 0} → Dec P → (R → P) → (P → Dec R) → Dec R
+need (yes p) out go = go p
+need (no d) out go = no (λ r. d (out r))
 
 abbrev Dec·and : {P Q : Type 0} → Dec P → Dec Q → Dec (P × Q)
 Dec·and (yes p) (yes q) = yes (p, q)
@@ -97,13 +102,16 @@ dec-all (suc n) P d = all-go n P (d n) (dec-all n P d)
 
 abbrev dec-live : (n : ℕ) (ks : List ℕ) (b : ℕ) → Dec (Live n ks b)
 dec-live n ks b =
-    map-dec (λ p. record { cell = p .0; used = p .1 }) (λ l. (l .cell, l .used))
-    (Dec·and (decLt b n) (dec-not (ℕ-discrete (mark ks b) 3)))
+    need (decLt b n) (λ l. l .cell) (λ cell.
+    need (dec-not (ℕ-discrete (mark ks b) 3)) (λ l. l .used) (λ used.
+    yes (record { cell = cell; used = used })))
 
 abbrev dec-mark : (n : ℕ) (ks : List ℕ) (a f : ℕ) (v : ℤ) → Dec (Mark n ks a f v)
 dec-mark n ks a f v =
-    map-dec (λ p. record { first = p .0; next = p .1 .0; alone = p .1 .1 }) (λ m. (m .first, (m .next, m .alone)))
-    (Dec·and (ℕ-discrete f 0) (Dec·and (decLe (addressOf (n + 1) v) n) (ℕ-discrete (kind ks a 1) 0)))
+    need (ℕ-discrete f 0) (λ m. m .first) (λ first.
+    need (decLe (addressOf (n + 1) v) n) (λ m. m .next) (λ next.
+    need (ℕ-discrete (kind ks a 1) 0) (λ m. m .alone) (λ alone.
+    yes (record { first = first; next = next; alone = alone }))))
 
 unfoldable pub dec-word : (n : ℕ) (ks : List ℕ) (a f k : ℕ) (v : ℤ) → Dec (Word n ks a f k v)
 unfolding Word
@@ -119,25 +127,43 @@ dec-words n ks vs = dec-all n _ (λ a. dec-all 2 _ (λ f. dec-word n ks a f (kin
 abbrev dec-variables : (n : ℕ) (ks : List ℕ) (xs : List ℤ) → Dec (Variables n ks xs)
 dec-variables n ks xs = dec-all (length xs) _ (λ v. dec-imp (dec-not (nothing? (getD xs v (pos 0)))) (dec-live n ks (addressOf n (getD xs v (pos 0)))))
 
--- ---- tables
+abbrev dec-cells : (n : ℕ) (ks : List ℕ) (vs xs : List ℤ) → Dec (CellsSound n ks vs xs)
+dec-cells n ks vs xs =
+    need (dec-words n ks vs) (λ c. c .words) (λ words.
+    need (dec-variables n ks xs) (λ c. c .variables) (λ variables.
+    yes (record { words = words; variables = variables })))
 
-abbrev dec-table : (n : ℕ) (ks row : List ℕ) (used : ℕ) → Dec (TableRow n ks row used)
-dec-table n ks row used =
-    map-dec (λ p. record { ascending = λ j h. p .0 j (omega arith) h; live = p .1 }) (λ t. (λ j h k. t .ascending j k, t .live))
-    (Dec·and (dec-all used (λ j. j + 1 < used → getD row j 0 < getD row (j + 1) 0) (λ j. dec-imp (decLt (j + 1) used) (decLt (getD row j 0) (getD row (j + 1) 0)))) (dec-all used _ (λ j. dec-live n ks (getD row j 0))))
+-- ---- table rows
 
 abbrev dec-zeros : (row : List ℕ) (from : ℕ) → Dec (ZeroFrom row from)
 dec-zeros row from =
     map-dec (λ p j h k. p j k h) (λ z j k h. z j h k)
     (dec-all (length row) (λ j. from ≤ j → getD row j 0 ≡ 0) (λ j. dec-imp (decLe from j) (ℕ-discrete (getD row j 0) 0)))
 
-abbrev dec-out : (row : List ℕ) (used a : ℕ) → Dec (NotIn row used a)
-dec-out row used a =
-    map-dec (λ p j h. p j (h .0) (h .1)) (λ o j h k. o j (h, k))
-    (dec-all used (λ j. getD row j 0 ≡ a → ⊥) (λ j. dec-not (ℕ-discrete (getD row j 0) a)))
+abbrev dec-ascending : (row : List ℕ) (used : ℕ) → Dec ((j : ℕ) → j + 1 < used → getD row j 0 < getD row (j + 1) 0)
+dec-ascending row used =
+    map-dec (λ p j h. p j (omega arith) h) (λ a j h k. a j k)
+    (dec-all used (λ j. j + 1 < used → getD row j 0 < getD row (j + 1) 0) (λ j. dec-imp (decLt (j + 1) used) (decLt (getD row j 0) (getD row (j + 1) 0))))
 
-abbrev dec-ranged : (cs : List ℕ) (used cap : ℕ) → Dec (Ranged cs used cap)
-dec-ranged cs used cap = dec-all used _ (λ j. Dec·and (decLe 2 (getD cs j 0)) (decLe (getD cs j 0) cap))
+abbrev dec-table : (n : ℕ) (ks row : List ℕ) (used : ℕ) → Dec (TableRow n ks row used)
+dec-table n ks row used =
+    need (dec-ascending row used) (λ t. t .ascending) (λ ascending.
+    need (dec-all used _ (λ j. dec-live n ks (getD row j 0))) (λ t. t .live) (λ live.
+    need (dec-zeros row used) (λ t. t .zeros) (λ zeros.
+    yes (record { ascending = ascending; live = live; zeros = zeros }))))
+
+abbrev dec-counts : (cs : List ℕ) (used cap : ℕ) → Dec (CountsRow cs used cap)
+dec-counts cs used cap =
+    need (dec-all used _ (λ j. Dec·and (decLe 2 (getD cs j 0)) (decLe (getD cs j 0) cap))) (λ t. t .ranged) (λ ranged.
+    need (dec-zeros cs used) (λ t. t .zeros) (λ zeros.
+    yes (record { ranged = ranged; zeros = zeros })))
+
+abbrev dec-tables : (h : Head) (ks : List ℕ) (t : TableRows) → Dec (TablesSound h ks t)
+dec-tables h ks t =
+    need (dec-table (h .sizes .n) ks (t .zct) (h .zct)) (λ s. s .zct-row) (λ zct-row.
+    need (dec-table (h .sizes .n) ks (t .mrt) (h .mrt)) (λ s. s .mrt-row) (λ mrt-row.
+    need (dec-counts (t .counts) (h .mrt) (h .sizes .cap)) (λ s. s .counts-row) (λ counts-row.
+    yes (record { zct-row = zct-row; mrt-row = mrt-row; counts-row = counts-row }))))
 
 -- ---- the free list
 
@@ -212,55 +238,89 @@ module _ (n : ℕ) (ks : List ℕ) (vs : List ℤ) where
         (Dec·and (dec-path first (listFrom n vs n first) n)
         (dec-all n (λ b. mark ks b ≡ 3 → times b (listFrom n vs n first) ≡ 1) (λ b. dec-imp (ℕ-discrete (mark ks b) 3) (ℕ-discrete (times b (listFrom n vs n first)) 1))))
 
+-- ---- counts, pointers and holds
+
+abbrev dec-out : (row : List ℕ) (used a : ℕ) → Dec (NotIn row used a)
+dec-out row used a =
+    map-dec (λ p j h. p j (h .0) (h .1)) (λ o j h k. o j (h, k))
+    (dec-all used (λ j. getD row j 0 ≡ a → ⊥) (λ j. dec-not (ℕ-discrete (getD row j 0) a)))
+
+module _ (h : Head) (ks : List ℕ) (t : TableRows) (count : ℕ → ℕ) where
+  abbrev dec-apart : Dec ((i j : ℕ) → i < h .zct → j < h .mrt → getD (t .zct) i 0 ≡ getD (t .mrt) j 0 → ⊥)
+  dec-apart =
+      map-dec (λ p i j k l. p i k j l) (λ a i k j l. a i j k l)
+      (dec-all (h .zct) (λ i. (j : ℕ) → j < h .mrt → getD (t .zct) i 0 ≡ getD (t .mrt) j 0 → ⊥) (λ i. dec-all (h .mrt) _ (λ j. dec-not (ℕ-discrete (getD (t .zct) i 0) (getD (t .mrt) j 0)))))
+
+  abbrev dec-one : Dec ((a : ℕ) → Live (h .sizes .n) ks a → NotIn (t .zct) (h .zct) a → NotIn (t .mrt) (h .mrt) a → count a ≡ 1)
+  dec-one =
+      map-dec (λ p a l. p a (l .cell) l) (λ o a k l. o a l)
+      (dec-all (h .sizes .n) (λ a. Live (h .sizes .n) ks a → NotIn (t .zct) (h .zct) a → NotIn (t .mrt) (h .mrt) a → count a ≡ 1)
+      (λ a. dec-imp (dec-live (h .sizes .n) ks a) (dec-imp (dec-out (t .zct) (h .zct) a) (dec-imp (dec-out (t .mrt) (h .mrt) a) (ℕ-discrete (count a) 1)))))
+
+  abbrev dec-exact : Dec ((j : ℕ) → j < h .mrt → getD (t .counts) j 0 < h .sizes .cap → count (getD (t .mrt) j 0) ≡ getD (t .counts) j 0)
+  dec-exact =
+      dec-all (h .mrt) (λ j. getD (t .counts) j 0 < h .sizes .cap → count (getD (t .mrt) j 0) ≡ getD (t .counts) j 0)
+      (λ j. dec-imp (decLt (getD (t .counts) j 0) (h .sizes .cap)) (ℕ-discrete (count (getD (t .mrt) j 0)) (getD (t .counts) j 0)))
+
+  abbrev dec-agree : Dec (Agree h ks t count)
+  dec-agree =
+      need dec-apart (λ a. a .apart) (λ apart.
+      need dec-one (λ a. a .one) (λ one.
+      need (dec-all (h .zct) _ (λ j. ℕ-discrete (count (getD (t .zct) j 0)) 0)) (λ a. a .none) (λ none.
+      need dec-exact (λ a. a .exact) (λ exact.
+      yes (record { apart = apart; one = one; none = none; exact = exact })))))
+
+abbrev dec-held : (n : ℕ) (xs : List ℤ) (zs : List ℕ) (used : ℕ) → Dec (ZctHeld n xs zs used)
+dec-held n xs zs used = dec-all used _ (λ j. Bool-discrete (heldAmong n xs (getD zs j 0) (length xs)))
+
 -- ---- the whole
 
 -- is the heap sound?
 unfoldable pub sound? : (h : Head) (r : Lent) → Dec (Sound h r)
 sound? h r =
-    map-dec
-    (λ p.
-    record {
-      words = p .0;
-      variables = p .1 .0;
-      zct-row = p .1 .1 .0;
-      mrt-row = p .1 .1 .1 .0;
-      zct-zeros = p .1 .1 .1 .1 .0;
-      mrt-zeros = p .1 .1 .1 .1 .1 .0;
-      counts-zeros = p .1 .1 .1 .1 .1 .1 .0;
-      free-list = p .1 .1 .1 .1 .1 .1 .1 .0;
-      apart = λ i j k l. p .1 .1 .1 .1 .1 .1 .1 .1 .0 i k j l;
-      one = λ a l. p .1 .1 .1 .1 .1 .1 .1 .1 .1 .0 a (l .cell) l;
-      none = p .1 .1 .1 .1 .1 .1 .1 .1 .1 .1 .0;
-      held = p .1 .1 .1 .1 .1 .1 .1 .1 .1 .1 .1 .0;
-      exact = p .1 .1 .1 .1 .1 .1 .1 .1 .1 .1 .1 .1 .0;
-      ranged = p .1 .1 .1 .1 .1 .1 .1 .1 .1 .1 .1 .1 .1 .0;
-      log-zero = p .1 .1 .1 .1 .1 .1 .1 .1 .1 .1 .1 .1 .1 .1;
-    })
-    (λ s. (s .words, (s .variables, (s .zct-row, (s .mrt-row, (s .zct-zeros, (s .mrt-zeros, (s .counts-zeros, (s .free-list, (λ i k j l. s .apart i j k l, (λ a k l. s .one a l, (s .none, (s .held, (s .exact, (s .ranged, s .log-zero)))))))))))))))
-    (Dec·and (dec-words (h .sizes .n) (r .kinds) (r .values))
-    (Dec·and (dec-variables (h .sizes .n) (r .kinds) (r .variables))
-    (Dec·and (dec-table (h .sizes .n) (r .kinds) (r .tables .zct) (h .zct))
-    (Dec·and (dec-table (h .sizes .n) (r .kinds) (r .tables .mrt) (h .mrt))
-    (Dec·and (dec-zeros (r .tables .zct) (h .zct))
-    (Dec·and (dec-zeros (r .tables .mrt) (h .mrt))
-    (Dec·and (dec-zeros (r .tables .counts) (h .mrt))
-    (Dec·and (dec-frees (h .sizes .n) (r .kinds) (r .values) (h .free))
-    (Dec·and (dec-all (h .zct) (λ i. (j : ℕ) → j < h .mrt → getD (r .tables .zct) i 0 ≡ getD (r .tables .mrt) j 0 → ⊥) (λ i. dec-all (h .mrt) _ (λ j. dec-not (ℕ-discrete (getD (r .tables .zct) i 0) (getD (r .tables .mrt) j 0)))))
-    (Dec·and (dec-all (h .sizes .n) (λ a. Live (h .sizes .n) (r .kinds) a → NotIn (r .tables .zct) (h .zct) a → NotIn (r .tables .mrt) (h .mrt) a → pointersTo h r a ≡ 1) (λ a. dec-imp (dec-live (h .sizes .n) (r .kinds) a) (dec-imp (dec-out (r .tables .zct) (h .zct) a) (dec-imp (dec-out (r .tables .mrt) (h .mrt) a) (ℕ-discrete (pointersTo h r a) 1)))))
-    (Dec·and (dec-all (h .zct) _ (λ j. ℕ-discrete (pointersTo h r (getD (r .tables .zct) j 0)) 0))
-    (Dec·and (dec-all (h .zct) _ (λ j. Bool-discrete (heldAmong (h .sizes .n) (r .variables) (getD (r .tables .zct) j 0) (length (r .variables)))))
-    (Dec·and (dec-all (h .mrt) (λ j. getD (r .tables .counts) j 0 < h .sizes .cap → pointersTo h r (getD (r .tables .mrt) j 0) ≡ getD (r .tables .counts) j 0) (λ j. dec-imp (decLt (getD (r .tables .counts) j 0) (h .sizes .cap)) (ℕ-discrete (pointersTo h r (getD (r .tables .mrt) j 0)) (getD (r .tables .counts) j 0))))
-    (Dec·and (dec-ranged (r .tables .counts) (h .mrt) (h .sizes .cap)) (dec-zeros (r .log) 0)))))))))))))))
+    need (dec-cells (h .sizes .n) (r .kinds) (r .values) (r .variables)) (λ s. s .cells) (λ cells.
+    need (dec-tables h (r .kinds) (r .tables)) (λ s. s .tables) (λ tables.
+    need (dec-frees (h .sizes .n) (r .kinds) (r .values) (h .free)) (λ s. s .free-list) (λ free-list.
+    need (dec-agree h (r .kinds) (r .tables) (pointersTo h r)) (λ s. s .agree) (λ agree.
+    need (dec-held (h .sizes .n) (r .variables) (r .tables .zct) (h .zct)) (λ s. s .held) (λ held.
+    need (dec-zeros (r .log) 0) (λ s. s .log-zero) (λ log-zero.
+    yes (record { cells = cells; tables = tables; free-list = free-list; agree = agree; held = held; log-zero = log-zero })))))))
 
 abbrev dec-limits : (s : Sizes) → Dec (Limits s)
-dec-limits s = map-dec (λ p. record { n-least = p .0; n-most = p .1 .0; m-least = p .1 .1 .0; m-most = p .1 .1 .1 .0; l-least = p .1 .1 .1 .1 .0; l-most = p .1 .1 .1 .1 .1 .0; cap-least = p .1 .1 .1 .1 .1 .1 .0; cap-most = p .1 .1 .1 .1 .1 .1 .1 }) (λ l. (l .n-least, (l .n-most, (l .m-least, (l .m-most, (l .l-least, (l .l-most, (l .cap-least, l .cap-most)))))))) (Dec·and (decLe 1 (s .n)) (Dec·and (decLe (s .n) 1024) (Dec·and (decLe 1 (s .m)) (Dec·and (decLe (s .m) 64) (Dec·and (decLe 2 (s .l)) (Dec·and (decLe (s .l) 1024) (Dec·and (decLe 3 (s .cap)) (decLe (s .cap) 255))))))))
+dec-limits s =
+    need (decLe 1 (s .n)) (λ l. l .n-least) (λ n-least.
+    need (decLe (s .n) 1024) (λ l. l .n-most) (λ n-most.
+    need (decLe 1 (s .m)) (λ l. l .m-least) (λ m-least.
+    need (decLe (s .m) 64) (λ l. l .m-most) (λ m-most.
+    need (decLe 2 (s .l)) (λ l. l .l-least) (λ l-least.
+    need (decLe (s .l) 1024) (λ l. l .l-most) (λ l-most.
+    need (decLe 3 (s .cap)) (λ l. l .cap-least) (λ cap-least.
+    need (decLe (s .cap) 255) (λ l. l .cap-most) (λ cap-most.
+    yes (record { n-least = n-least; n-most = n-most; m-least = m-least; m-most = m-most; l-least = l-least; l-most = l-most; cap-least = cap-least; cap-most = cap-most })))))))))
 
 abbrev dec-within : (h : Head) → Dec (Within h)
-dec-within h = map-dec (λ p. record { limits = p .0; free-most = p .1 .0; zct-most = p .1 .1 .0; mrt-most = p .1 .1 .1 }) (λ l. (l .limits, (l .free-most, (l .zct-most, l .mrt-most)))) (Dec·and (dec-limits (h .sizes)) (Dec·and (decLe (h .free) (h .sizes .n)) (Dec·and (decLe (h .zct) (h .sizes .n)) (decLe (h .mrt) (h .sizes .n)))))
+dec-within h =
+    need (dec-limits (h .sizes)) (λ w. w .limits) (λ limits.
+    need (decLe (h .free) (h .sizes .n)) (λ w. w .free-most) (λ free-most.
+    need (decLe (h .zct) (h .sizes .n)) (λ w. w .zct-most) (λ zct-most.
+    need (decLe (h .mrt) (h .sizes .n)) (λ w. w .mrt-most) (λ mrt-most.
+    yes (record { limits = limits; free-most = free-most; zct-most = zct-most; mrt-most = mrt-most })))))
 
-abbrev dec-lengths : (h : Head) (kinds values vars zct mrt counts log work : ℕ) → Dec (Lengths h kinds values vars zct mrt counts log work)
-dec-lengths h kinds values vars zct mrt counts log work = map-dec (λ p. record { for-kinds = p .0; for-values = p .1 .0; for-variables = p .1 .1 .0; for-zct = p .1 .1 .1 .0; for-mrt = p .1 .1 .1 .1 .0; for-counts = p .1 .1 .1 .1 .1 .0; for-log = p .1 .1 .1 .1 .1 .1 .0; for-work = p .1 .1 .1 .1 .1 .1 .1 }) (λ l. (l .for-kinds, (l .for-values, (l .for-variables, (l .for-zct, (l .for-mrt, (l .for-counts, (l .for-log, l .for-work)))))))) (Dec·and (ℕ-discrete kinds (2 * h .sizes .n)) (Dec·and (ℕ-discrete values (2 * h .sizes .n)) (Dec·and (ℕ-discrete vars (h .sizes .m)) (Dec·and (ℕ-discrete zct (h .sizes .n)) (Dec·and (ℕ-discrete mrt (h .sizes .n)) (Dec·and (ℕ-discrete counts (h .sizes .n)) (Dec·and (ℕ-discrete log (2 * h .sizes .l)) (ℕ-discrete work (h .sizes .n)))))))))
+abbrev dec-lengths : (h : Head) (kinds values variables zct mrt counts log work : ℕ) → Dec (Lengths h kinds values variables zct mrt counts log work)
+dec-lengths h kinds values variables zct mrt counts log work =
+    need (ℕ-discrete kinds (2 * h .sizes .n)) (λ l. l .for-kinds) (λ for-kinds.
+    need (ℕ-discrete values (2 * h .sizes .n)) (λ l. l .for-values) (λ for-values.
+    need (ℕ-discrete variables (h .sizes .m)) (λ l. l .for-variables) (λ for-variables.
+    need (ℕ-discrete zct (h .sizes .n)) (λ l. l .for-zct) (λ for-zct.
+    need (ℕ-discrete mrt (h .sizes .n)) (λ l. l .for-mrt) (λ for-mrt.
+    need (ℕ-discrete counts (h .sizes .n)) (λ l. l .for-counts) (λ for-counts.
+    need (ℕ-discrete log (2 * h .sizes .l)) (λ l. l .for-log) (λ for-log.
+    need (ℕ-discrete work (h .sizes .n)) (λ l. l .for-work) (λ for-work.
+    yes (record { for-kinds = for-kinds; for-values = for-values; for-variables = for-variables; for-zct = for-zct; for-mrt = for-mrt; for-counts = for-counts; for-log = for-log; for-work = for-work })))))))))
 
 -- are the head's numbers within the limits, and the rows' lengths those that it says?
 unfoldable pub sized? : (h : Head) (r : Lent) → Dec (Sized h r)
-sized? h r = map-dec (λ p. record { within = p .0; lengths = p .1 }) (λ z. (z .within, z .lengths)) (Dec·and (dec-within h) (dec-lengths h (length (r .kinds)) (length (r .values)) (length (r .variables)) (length (r .tables .zct)) (length (r .tables .mrt)) (length (r .tables .counts)) (length (r .log)) (length (r .work))))
+sized? h r =
+    need (dec-within h) (λ z. z .within) (λ within.
+    need (dec-lengths h (length (r .kinds)) (length (r .values)) (length (r .variables)) (length (r .tables .zct)) (length (r .tables .mrt)) (length (r .tables .counts)) (length (r .log)) (length (r .work))) (λ z. z .lengths) (λ lengths.
+    yes (record { within = within; lengths = lengths })))

@@ -9,12 +9,12 @@ use lib.IntN.{ℤ, pos, negsuc}
 use Rattle.rules.specs.declared.Head.{Head}
 use Rattle.rules.specs.declared.Sizes.{Sizes}
 use Rattle.rules.specs.declared.Call.{Call}
-use Rattle.rules.specs.declared.Call.the-variants.{New, Copy, Clear, Link, Put, Blank, Follow, Read, Same, Settle}
+use Rattle.rules.specs.declared.Call.the-variants.{New, Do, Settle}
 use Rattle.rules.specs.Head.{freshHead, zeroHead}
 use Rattle.rules.specs.Call.{callsIn, isNought}
 use Rattle.rules.specs.Step.{fresh}
 use Rattle.rules.specs.Rows.{Lent, rowsOf}
-use Rattle.rules.specs.Sound.{Sound, Sized, Live, NotIn, pointersTo, heldAmong, times}
+use Rattle.rules.specs.Sound.{Sound, Sized, Agree, pointersTo, heldAmong, times}
 use Rattle.rules.specs.Refusals.{Batched, outcome, leaves, leavesWith, cleared, accepted}
 use Rattle.rules.specs.Endless.{endless}
 use Rattle.rules.specs.Run.{Heaps, Batch, runOf, AlikeBatches, AlikeRows, AlikeRuns, Said, said, saidIn, but14, AsEndless}
@@ -64,21 +64,12 @@ pub record Demand1 (H : Heaps) : Type 0 where
 -- ---- 2. A settle leaves the tables that the 1976 rules give
 
 -- a cell not at the cap has its exact number of pointers from cells: none in ZCT, the count in MRT, else one
-pub record ExactBelowCap (h : Head) (r : Lent) : Type 0 where
-  pub none : (j : ℕ) → j < h .zct → pointersTo h r (getD (r .tables .zct) j 0) ≡ 0
-  pub many : (j : ℕ) → j < h .mrt → getD (r .tables .counts) j 0 < h .sizes .cap → pointersTo h r (getD (r .tables .mrt) j 0) ≡ getD (r .tables .counts) j 0
-  pub one : (a : ℕ) → Live (h .sizes .n) (r .kinds) a → NotIn (r .tables .zct) (h .zct) a → NotIn (r .tables .mrt) (h .mrt) a → pointersTo h r a ≡ 1
+abbrev pub ExactBelowCap : Head → Lent → Type 0
+ExactBelowCap h r = Agree h (r .kinds) (r .tables) (pointersTo h r)
 
 abbrev pub isNew : Call → Bool
 isNew (New v) = true
-isNew (Copy v w) = false
-isNew (Clear v) = false
-isNew (Link v f w) = false
-isNew (Put v f x) = false
-isNew (Blank v f) = false
-isNew (Follow v f w) = false
-isNew (Read v f) = false
-isNew (Same v w) = false
+isNew (Do d) = false
 isNew Settle = false
 
 -- the cells handed out: news answered 0

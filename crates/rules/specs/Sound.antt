@@ -9,7 +9,7 @@ use lib.IntN.{ℤ, pos, negsuc}
 use Rattle.rules.specs.declared.Head.{Head}
 use Rattle.rules.specs.Head.{Within}
 use Rattle.rules.specs.Field.{Signed32, addressOf}
-use Rattle.rules.specs.Rows.{Lent}
+use Rattle.rules.specs.Rows.{TableRows, Lent}
 
 -- ---- kinds and values
 
@@ -56,48 +56,36 @@ Variable n ks x = (x ≡ negsuc 0 → ⊥) → Live n ks (addressOf n x)
 abbrev pub Variables : ℕ → List ℕ → List ℤ → Type 0
 Variables n ks xs = (v : ℕ) → v < length xs → Variable n ks (getD xs v (pos 0))
 
--- ---- tables
+-- kinds and values are as above; pointers and variables name cells that aren't free
+pub record CellsSound (n : ℕ) (ks : List ℕ) (vs xs : List ℤ) : Type 0 where
+  pub words : Words n ks vs
+  pub variables : Variables n ks xs
 
--- the used part of a table's row is ascending, and names cells that aren't free
-pub record TableRow (n : ℕ) (ks row : List ℕ) (used : ℕ) : Type 0 where
-  pub ascending : (j : ℕ) → j + 1 < used → getD row j 0 < getD row (j + 1) 0
-  pub live : (j : ℕ) → j < used → Live n ks (getD row j 0)
+-- ---- table rows
 
 -- a row is zero from a place on
 abbrev pub ZeroFrom : List ℕ → ℕ → Type 0
 ZeroFrom row from = (j : ℕ) → from ≤ j → j < length row → getD row j 0 ≡ 0
 
--- a is the used part's entry j
-abbrev pub At : List ℕ → ℕ → ℕ → ℕ → Type 0
-At row used j a = (j < used) × (getD row j 0 ≡ a)
+pub record TableRow (n : ℕ) (ks row : List ℕ) (used : ℕ) : Type 0 where
+  -- ascending by address, so that no table names a cell twice
+  pub ascending : (j : ℕ) → j + 1 < used → getD row j 0 < getD row (j + 1) 0
+  -- it names cells that aren't free
+  pub live : (j : ℕ) → j < used → Live n ks (getD row j 0)
+  -- zeros after the used part
+  pub zeros : ZeroFrom row used
 
--- the used part has no entry a
-abbrev pub NotIn : List ℕ → ℕ → ℕ → Type 0
-NotIn row used a = (j : ℕ) → At row used j a → ⊥
+pub record CountsRow (cs : List ℕ) (used cap : ℕ) : Type 0 where
+  -- no count but from 2 to the cap
+  pub ranged : (j : ℕ) → j < used → (2 ≤ getD cs j 0) × (getD cs j 0 ≤ cap)
+  -- zeros after the used part
+  pub zeros : ZeroFrom cs used
 
--- no count but from 2 to the cap
-abbrev pub Ranged : List ℕ → ℕ → ℕ → Type 0
-Ranged cs used cap = (j : ℕ) → j < used → (2 ≤ getD cs j 0) × (getD cs j 0 ≤ cap)
-
--- ---- pointers and holds
-
--- the cell that a word points to, n where it points to none
-abbrev pub pointsTo : ℕ → ℕ → ℤ → ℕ
-pointsTo n k v = cond (eqb k 2) (addressOf n v) n
-
--- how many of the first i words point to b
-abbrev pub pointers : ℕ → List ℕ → List ℤ → ℕ → ℕ → ℕ
-pointers n ks vs b zero = 0
-pointers n ks vs b (suc i) = cond (eqb (pointsTo n (getD ks i 0) (getD vs i (pos 0))) b) 1 0 + pointers n ks vs b i
-
--- how many pointers from cells b has
-abbrev pub pointersTo : Head → Lent → ℕ → ℕ
-pointersTo h r b = pointers (h .sizes .n) (r .kinds) (r .values) b (2 * h .sizes .n)
-
--- does one of the first v variables hold b?
-abbrev pub heldAmong : ℕ → List ℤ → ℕ → ℕ → Bool
-heldAmong n xs b zero = false
-heldAmong n xs b (suc v) = eqb (addressOf n (getD xs v (pos 0))) b || heldAmong n xs b v
+-- table rows are as above; ZCT and MRT name cells that aren't free, and no table names a cell twice; no other count occurs
+pub record TablesSound (h : Head) (ks : List ℕ) (t : TableRows) : Type 0 where
+  pub zct-row : TableRow (h .sizes .n) ks (t .zct) (h .zct)
+  pub mrt-row : TableRow (h .sizes .n) ks (t .mrt) (h .mrt)
+  pub counts-row : CountsRow (t .counts) (h .mrt) (h .sizes .cap)
 
 -- ---- the free list
 
@@ -126,32 +114,62 @@ pub record FreeList (n : ℕ) (ks : List ℕ) (vs : List ℤ) (first : ℕ) : Ty
   pub path : FreePath n ks vs first list n
   pub once : (b : ℕ) → b < n → mark ks b ≡ 3 → times b list ≡ 1
 
+-- ---- counts, pointers and holds
+
+-- the cell that a word points to, n where it points to none
+abbrev pub pointsTo : ℕ → ℕ → ℤ → ℕ
+pointsTo n k v = cond (eqb k 2) (addressOf n v) n
+
+-- how many of the first i words point to b
+abbrev pub pointers : ℕ → List ℕ → List ℤ → ℕ → ℕ → ℕ
+pointers n ks vs b zero = 0
+pointers n ks vs b (suc i) = cond (eqb (pointsTo n (getD ks i 0) (getD vs i (pos 0))) b) 1 0 + pointers n ks vs b i
+
+-- how many pointers from cells b has
+abbrev pub pointersTo : Head → Lent → ℕ → ℕ
+pointersTo h r b = pointers (h .sizes .n) (r .kinds) (r .values) b (2 * h .sizes .n)
+
+-- does one of the first v variables hold b?
+abbrev pub heldAmong : ℕ → List ℤ → ℕ → ℕ → Bool
+heldAmong n xs b zero = false
+heldAmong n xs b (suc v) = eqb (addressOf n (getD xs v (pos 0))) b || heldAmong n xs b v
+
+-- a is the used part's entry j
+abbrev pub At : List ℕ → ℕ → ℕ → ℕ → Type 0
+At row used j a = (j < used) × (getD row j 0 ≡ a)
+
+-- the used part has no entry a
+abbrev pub NotIn : List ℕ → ℕ → ℕ → Type 0
+NotIn row used a = (j : ℕ) → At row used j a → ⊥
+
+-- the tables agree with a count of each cell's pointers
+pub record Agree (h : Head) (ks : List ℕ) (t : TableRows) (count : ℕ → ℕ) : Type 0 where
+  -- ZCT and MRT share no cell
+  pub apart : (i j : ℕ) → i < h .zct → j < h .mrt → getD (t .zct) i 0 ≡ getD (t .mrt) j 0 → ⊥
+  -- a cell that isn't free and is in neither has one pointer
+  pub one : (a : ℕ) → Live (h .sizes .n) ks a → NotIn (t .zct) (h .zct) a → NotIn (t .mrt) (h .mrt) a → count a ≡ 1
+  -- a ZCT cell has none
+  pub none : (j : ℕ) → j < h .zct → count (getD (t .zct) j 0) ≡ 0
+  -- an MRT count below the cap is exact, and a count at the cap may stand with any number
+  pub exact : (j : ℕ) → j < h .mrt → getD (t .counts) j 0 < h .sizes .cap → count (getD (t .mrt) j 0) ≡ getD (t .counts) j 0
+
+-- some variable holds each ZCT cell
+abbrev pub ZctHeld : ℕ → List ℤ → List ℕ → ℕ → Type 0
+ZctHeld n xs zs used = (j : ℕ) → j < used → heldAmong n xs (getD zs j 0) (length xs) ≡ true
+
 -- ---- the whole
 
 pub record Sound (h : Head) (r : Lent) : Type 0 where
-  -- kinds and values are as above; pointers name cells that aren't free
-  pub words : Words (h .sizes .n) (r .kinds) (r .values)
-  -- variables name cells that aren't free, or are -1
-  pub variables : Variables (h .sizes .n) (r .kinds) (r .variables)
-  -- table rows are as above: ascending by address, so that none names a cell twice; ZCT and MRT name cells that aren't free
-  pub zct-row : TableRow (h .sizes .n) (r .kinds) (r .tables .zct) (h .zct)
-  pub mrt-row : TableRow (h .sizes .n) (r .kinds) (r .tables .mrt) (h .mrt)
-  -- zeros after the used part
-  pub zct-zeros : ZeroFrom (r .tables .zct) (h .zct)
-  pub mrt-zeros : ZeroFrom (r .tables .mrt) (h .mrt)
-  pub counts-zeros : ZeroFrom (r .tables .counts) (h .mrt)
+  -- kinds and values are as above; pointers and variables name cells that aren't free
+  pub cells : CellsSound (h .sizes .n) (r .kinds) (r .values) (r .variables)
+  -- table rows are as above; ZCT and MRT name cells that aren't free, and no table names a cell twice; no other count occurs
+  pub tables : TablesSound h (r .kinds) (r .tables)
   -- the free list meets every free cell once
   pub free-list : FreeList (h .sizes .n) (r .kinds) (r .values) (h .free)
-  -- ZCT and MRT share no cell
-  pub apart : (i j : ℕ) → i < h .zct → j < h .mrt → getD (r .tables .zct) i 0 ≡ getD (r .tables .mrt) j 0 → ⊥
-  -- a cell that isn't free and is in neither has one pointer from cells
-  pub one : (a : ℕ) → Live (h .sizes .n) (r .kinds) a → NotIn (r .tables .zct) (h .zct) a → NotIn (r .tables .mrt) (h .mrt) a → pointersTo h r a ≡ 1
-  -- a ZCT cell has none, and some variable holds it
-  pub none : (j : ℕ) → j < h .zct → pointersTo h r (getD (r .tables .zct) j 0) ≡ 0
-  pub held : (j : ℕ) → j < h .zct → heldAmong (h .sizes .n) (r .variables) (getD (r .tables .zct) j 0) (length (r .variables)) ≡ true
-  -- an MRT count from 2 to below the cap is exact, and a count at the cap may stand with any number; no other count occurs
-  pub exact : (j : ℕ) → j < h .mrt → getD (r .tables .counts) j 0 < h .sizes .cap → pointersTo h r (getD (r .tables .mrt) j 0) ≡ getD (r .tables .counts) j 0
-  pub ranged : Ranged (r .tables .counts) (h .mrt) (h .sizes .cap)
+  -- ZCT and MRT share no cell; a cell in neither has one pointer from cells, a ZCT cell none, an MRT cell below the cap as many as its count
+  pub agree : Agree h (r .kinds) (r .tables) (pointersTo h r)
+  -- some variable holds each ZCT cell
+  pub held : ZctHeld (h .sizes .n) (r .variables) (r .tables .zct) (h .zct)
   -- log is zero
   pub log-zero : ZeroFrom (r .log) 0
 

@@ -32,11 +32,11 @@ enum-told-3 : tie.Need-enum-told-3
 enum-told-3 c = search needs
 
 returns : tie.Need-returns
-unfolding drops replay
+unfolding replay
 returns c = λ n t R. rw (c .enum-told .given .1) R
 
 returns-2 : tie.Need-returns-2
-unfolding drops replay
+unfolding replay
 returns-2 c = λ n t R. rw (c .enum-told2 .given .1) R
 
 same-length : tie.Need-same-length
@@ -55,7 +55,7 @@ returns-3 c = let d : tie.After-destroy = search needs in
     let-go (s .args .f) (f .f .given .1) (d .destroy .ensures)
 
 returns-4 : tie.Need-returns-4
-unfolding drops replay
+unfolding replay
 returns-4 c = λ n t R. rw (c .enum-told3 .given .1) R
 
 pub let-go-spec : {M : Type 1} → statement M
