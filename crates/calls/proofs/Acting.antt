@@ -70,7 +70,6 @@ pub no-address : (n : ℕ) → heldAs n n ≡ none
 no-address n = rw (le-ltb n n (omega arith))
 
 target-inside : (n : ℕ) (x : Field) → Inside n x → (a : ℕ) → target x ≡ some a → a < n
-unfolding target
 target-inside n Nothing I a e = absurd (let z : _≡_ {A = ℕ} 0 1 = cc in omega arith)
 target-inside n (Figure y) I a e = absurd (let z : _≡_ {A = ℕ} 0 1 = cc in omega arith)
 target-inside n (Cell b) I a e = let q : b ≡ a = cc in omega arith
@@ -86,7 +85,6 @@ followed {n} {vs = vs} {s = s} v f w r x S e t q =
 -- ---- a field that is written
 
 held-true : (o : Option ℕ) → want (isHeld o) 11 ≡ 0 → isHeld o ≡ true
-unfolding want isHeld
 held-true none e = absurd (omega arith)
 held-true (some a) e = refl
 
@@ -133,7 +131,7 @@ wrote {n} {s = s} {ts = ts} v f a x old S L l e h I q ek ex more =
 pub linked-as : {n : ℕ} {ks : List ℕ} {xs vs : List ℤ} {log : List ℕ} {r : ℕ} (s : Shape) (us : List Transaction) (v f w b : ℕ)
     → Held n vs (s .variables) → w < length vs → b ≡ addressOf n (getD vs w (pos 0)) → b < n
     → Wrote n ks xs vs log r (write s v f (Cell b)) us → Wrote n ks xs vs log r (write s v f (toCell (var s w))) us
-unfolding toCell var
+unfolding var
 linked-as s us v f w b H l e h W = record { shown = rw (held-some H w l e h) (W .shown); logged = W .logged }
 
 pub linked : {n : ℕ} {ks : List ℕ} {xs vs : List ℤ} {log log′ : List ℕ} {l r : ℕ} (s : Shape) (ts : List Transaction) (v f w b : ℕ)
@@ -141,7 +139,7 @@ pub linked : {n : ℕ} {ks : List ℕ} {xs vs : List ℤ} {log log′ : List ℕ
     → Wrote n ks xs vs log l (write s v f (Cell b)) (ts ++ drops (at s v f))
     → ((n : ℕ) (us : List Transaction) → Logged n log l us → b < n → Logged n log′ r (us ++ (transaction 2 b ∷ [])))
     → Wrote n ks xs vs log′ r (write s v f (toCell (var s w))) (ts ++ (drops (at s v f) ++ makes (var s w)))
-unfolding var makes transaction
+unfolding var transaction
 linked {n} s ts v f w b H l e h W more =
     linked-as s _ v f w b H l e h
     (record { shown = W .shown; logged = rw (held-some H w l e h, ← append-assoc) (more n (ts ++ drops (at s v f)) (W .logged) h) })
@@ -150,19 +148,16 @@ linked {n} s ts v f w b H l e h W more =
 
 pub same-none : {n : ℕ} {vs : List ℤ} {hs : List (Option ℕ)} (v w : ℕ) {a : ℕ} → Held n vs hs → v < length vs → a ≡ addressOf n (getD vs v (pos 0)) → n ≤ a
     → pos 0 ≡ cond (sameCell (getD hs v none) (getD hs w none)) (pos 1) (pos 0)
-unfolding sameCell
 same-none v w H l e h = rw (held-none H v l e h)
 
 module _ {n : ℕ} {vs : List ℤ} {hs : List (Option ℕ)} (v w : ℕ) {a b : ℕ} (H : Held n vs hs) (l : v < length vs) (k : w < length vs)
     (e : a ≡ addressOf n (getD vs v (pos 0))) (g : b ≡ addressOf n (getD vs w (pos 0))) (h : a < n) where
   pub same-yes : a ≡ b → pos 1 ≡ cond (sameCell (getD hs v none) (getD hs w none)) (pos 1) (pos 0)
-  unfolding sameCell
   same-yes q =
       let j : b < n = omega arith in
       rw (held-some H v l e h, held-some H w k g j, eq-eqb a b q)
 
   pub same-no : (a ≡ b → ⊥) → pos 0 ≡ cond (sameCell (getD hs v none) (getD hs w none)) (pos 1) (pos 0)
-  unfolding sameCell
   same-no d = go (getD hs w none) refl
     where
       go : (o : Option ℕ) → getD hs w none ≡ o → pos 0 ≡ cond (sameCell (getD hs v none) o) (pos 1) (pos 0)
@@ -183,7 +178,7 @@ module _ {n : ℕ} {vs : List ℤ} {hs : List (Option ℕ)} (v w : ℕ) {a b : �
 
 pub none-free : {n cap : ℕ} {ks : List ℕ} {xs vs : List ℤ} {zs ms cs log work : List ℕ} {len first : ℕ} {u : Used} {h : Heap} (s : Sizes) (v : ℕ) (r : Acted)
     → s .n ≡ n → first ≡ n → Whole n cap ks xs vs zs ms cs log work len first u h → r .len ≡ len → r .first ≡ first → r .status ≡ 14 → r .value ≡ pos 0
-    → Did n cap ks xs vs zs ms cs log work u r (doNew s v h)
+    → Did n cap ks xs vs zs ms cs log work u r (doNew (noneFree s h) v h)
 unfolding doNew noneFree
 none-free {h = h} s v r en ef W a b c d =
     let q : h .first ≡ s .n = cc (W .rows .first) in
@@ -194,7 +189,7 @@ pub took : {n cap : ℕ} {ks ks′ : List ℕ} {xs xs′ vs vs′ : List ℤ} {z
     → s .n ≡ n → (first ≡ n → ⊥) → Whole n cap ks xs vs zs ms cs log work len first u h
     → ((n : ℕ) (fs : List Field) → Cells n ks xs fs → Taken n ks′ xs′ first next fs) → vs′ ≡ set vs v (variableOf (heldAs n first))
     → ((n : ℕ) (ts : List Transaction) → Logged n log len ts → first < n → Logged n log′ l (ts ++ (transaction 1 first ∷ [])))
-    → Plain l next (pos 0) r → Did n cap ks′ xs′ vs′ zs ms cs log′ work u r (doNew s v h)
+    → Plain l next (pos 0) r → Did n cap ks′ xs′ vs′ zs ms cs log′ work u r (doNew (noneFree s h) v h)
 unfolding doNew noneFree takeCell hold transaction
 took {n} {vs = vs} {first = first} {h = h} s v r en d W taking ev more D =
     let f = W .rows .first in

@@ -8,22 +8,24 @@ use native.Mathlib.Omega.{arith}
 use lib.IntN.{ℤ, pos}
 use lib.ListN.{length, getD, set, length-append}
 use Rattle.rules.specs.declared.Field.the-variants.{Nothing, Figure, Cell}
+use Rattle.rules.specs.declared.Deed.{Deed}
+use Rattle.rules.specs.declared.Deed.the-variants.{Copy, Clear, Link, Put, Blank, Follow, Read, Same}
 use Rattle.rules.specs.declared.Call.{Call}
-use Rattle.rules.specs.declared.Call.the-variants.{New, Copy, Clear, Link, Put, Blank, Follow, Read, Same, Settle}
+use Rattle.rules.specs.declared.Call.the-variants.{New, Do, Settle}
 use Rattle.rules.specs.declared.Used.{Used}
 use Rattle.rules.specs.declared.Sizes.{Sizes}
 use Rattle.rules.specs.Field.{addressOf}
 use Rattle.rules.specs.Rules.{Transaction}
 use Rattle.rules.specs.Settle.{Shape, Heap, drops}
-use Rattle.rules.specs.Call.{var, at, isHeld, want, check, logs, act, value, write, hold, toCell, target, makes, figureOf, sameCell}
-use Rattle.rules.specs.Step.{doCall, room}
+use Rattle.rules.specs.Call.{Fits, var, at, isHeld, want, refuses, check, logs, act, value, write, hold, toCell, target, makes, figureOf, sameCell}
+use Rattle.rules.specs.Step.{needs, doDeed, acted}
 use Rattle.rules.specs.Whole.{Logged, Whole}
-use Rattle.rules.proofs.Calls.{two-11, Fits}
+use Rattle.rules.proofs.Calls.{two-11}
 use Rattle.cells.proofs.Storing.{cell-lengths}
 use Rattle.cells.proofs.Logging.{logged-same}
 use Rattle.calls.specs.declared.Acted.{Acted}
-use Rattle.before.specs.Seen.{Held, Shown, Reach, Named, needs}
-use Rattle.calls.specs.Doing.{acted, Did, Plain, Wrote, Writable, Linkable, Takeable, Able}
+use Rattle.before.specs.Seen.{Held, Shown, Reach}
+use Rattle.calls.specs.Doing.{Did, Plain, Wrote, Writable, Linkable, Takeable, Able}
 use Rattle.calls.proofs.Acting.{holder}
 
 -- ---- link's two steps
@@ -60,24 +62,22 @@ module _ {n : ℕ} {ks : List ℕ} {xs vs : List ℤ} {log : List ℕ} {len v f 
 -- ---- what a call needs
 
 makes-one : (o : Option ℕ) → want (isHeld o) 11 ≡ 0 → length (makes o) ≡ 1
-unfolding want isHeld makes
 makes-one none e = absurd (omega arith)
 makes-one (some a) e = refl
 
 module _ {n : ℕ} {ks : List ℕ} {xs vs : List ℤ} {log : List ℕ} {len first : ℕ} where
   pub can-take : {v : ℕ} → Able n ks xs vs log len first (New v) → Takeable n ks xs vs log len first v
-  unfolding needs
   can-take A =
       let l = cell-lengths (A .shown .cells) in
-      record { most = A .most; within = A .within; kinds-long = l .0; values-long = l .1; v-below = A .named; room = A .room }
+      record { most = A .most; within = A .within; kinds-long = l .0; values-long = l .1; v-below = A .fits; room = A .room }
 
   pub can-reach : {c : Call} (v f : ℕ) → Able n ks xs vs log len first c → v < length vs → f < 2 → Reach n ks xs vs v f
   can-reach v f A p q =
       let l = cell-lengths (A .shown .cells) in
       record { kinds-long = l .0; values-long = l .1; v-below = p; f-below = q }
 
-  pub can-link : {v f w : ℕ} → Able n ks xs vs log len first (Link v f w) → Linkable n ks xs vs log len v f w
-  unfolding needs check logs
+  pub can-link : {v f w : ℕ} → Able n ks xs vs log len first (Do (Link v f w)) → Linkable n ks xs vs log len v f w
+  unfolding refuses logs
   can-link {v} {f} {w} A =
       let t = two-11 (isHeld (var (A .shape) v)) (isHeld (var (A .shape) w)) (A .right) in
       let r = A .room in
@@ -87,9 +87,9 @@ module _ {n : ℕ} {ks : List ℕ} {xs vs : List ℤ} {log : List ℕ} {len firs
         most = A .most;
         shape = A .shape;
         shown = A .shown;
-        v-below = A .named .0;
-        f-below = A .named .1 .0;
-        w-below = A .named .1 .1;
+        v-below = A .fits .0;
+        f-below = A .fits .1;
+        w-below = A .fits .2;
         holding = t .0;
         held-w = t .1;
         entries = A .entries;
@@ -97,29 +97,29 @@ module _ {n : ℕ} {ks : List ℕ} {xs vs : List ℤ} {log : List ℕ} {len firs
         room = omega arith;
       }
 
-  pub can-put : {v f : ℕ} {x : ℤ} (y : ℤ) → Able n ks xs vs log len first (Put v f x) → Writable n ks xs vs log len v f (Figure y)
-  unfolding needs check logs
+  pub can-put : {v f : ℕ} {x : ℤ} (y : ℤ) → Able n ks xs vs log len first (Do (Put v f x)) → Writable n ks xs vs log len v f (Figure y)
+  unfolding refuses logs
   can-put y A =
       record {
         most = A .most;
         shape = A .shape;
         shown = A .shown;
-        v-below = A .named .0;
-        f-below = A .named .1;
+        v-below = A .fits .0;
+        f-below = A .fits .1;
         holding = A .right;
         inside = tt;
         room = A .room;
       }
 
-  pub can-blank : {v f : ℕ} → Able n ks xs vs log len first (Blank v f) → Writable n ks xs vs log len v f Nothing
-  unfolding needs check logs
+  pub can-blank : {v f : ℕ} → Able n ks xs vs log len first (Do (Blank v f)) → Writable n ks xs vs log len v f Nothing
+  unfolding refuses logs
   can-blank A =
       record {
         most = A .most;
         shape = A .shape;
         shown = A .shown;
-        v-below = A .named .0;
-        f-below = A .named .1;
+        v-below = A .fits .0;
+        f-below = A .fits .1;
         holding = A .right;
         inside = tt;
         room = A .room;
@@ -133,7 +133,7 @@ shown-of W = record { cells = W .rows .cells; held = record { are = W .variables
 
 -- what a caller has at hand is all that a call needs
 pub able : {n cap : ℕ} {ks : List ℕ} {xs vs : List ℤ} {zs ms cs log work : List ℕ} {len first : ℕ} {u : Used} {h : Heap} (c : Call)
-    → Whole n cap ks xs vs zs ms cs log work len first u h → Named (length vs) c → check c (h .shape) ≡ 0 → 2 * (len + needs c (h .shape)) ≤ length log
+    → Whole n cap ks xs vs zs ms cs log work len first u h → Fits (length vs) c → check c (h .shape) ≡ 0 → 2 * (len + needs c (h .shape)) ≤ length log
     → Able n ks xs vs log len first c
 able {h = h} c W k r m =
     record {
@@ -141,19 +141,19 @@ able {h = h} c W k r m =
       within = W .rows .within;
       shape = h .shape;
       shown = shown-of W;
-      named = k;
+      fits = k;
       right = r;
       entries = h .log;
       logged = W .logged;
       room = m;
     }
 
-module _ {n cap : ℕ} {ks : List ℕ} {xs vs : List ℤ} {zs ms cs log work : List ℕ} {len first : ℕ} {u : Used} {h : Heap} (s : Sizes)
+module _ {n cap : ℕ} {ks : List ℕ} {xs vs : List ℤ} {zs ms cs log work : List ℕ} {len first : ℕ} {u : Used} {h : Heap}
     (W : Whole n cap ks xs vs zs ms cs log work len first u h) {r : Acted} where
-  call-did : {ks′ : List ℕ} {xs′ vs′ : List ℤ} {log′ : List ℕ} {len′ : ℕ} {x : ℤ} (c : Call) → Plain len′ first x r → Shown n ks′ xs′ vs′ (act c (h .shape))
-      → Logged n log′ len′ (h .log ++ logs c (h .shape)) → x ≡ value c (h .shape) → Did n cap ks′ xs′ vs′ zs ms cs log′ work u r (doCall c h)
-  unfolding doCall
-  call-did c D S L e =
+  deed-did : {ks′ : List ℕ} {xs′ vs′ : List ℤ} {log′ : List ℕ} {len′ : ℕ} {x : ℤ} (d : Deed) → Plain len′ first x r → Shown n ks′ xs′ vs′ (act d (h .shape))
+      → Logged n log′ len′ (h .log ++ logs d (h .shape)) → x ≡ value d (h .shape) → Did n cap ks′ xs′ vs′ zs ms cs log′ work u r (doDeed d h)
+  unfolding doDeed
+  deed-did d D S L e =
       record {
         whole =
             rw (D .len-is, D .first-is)
@@ -176,65 +176,52 @@ module _ {n cap : ℕ} {ks : List ℕ} {xs vs : List ℤ} {zs ms cs log work : L
       }
 
   pub did-copy : {vs′ : List ℤ} {x : ℤ} (v w : ℕ) → Plain len first x r → x ≡ pos 0 → ((hs : List (Option ℕ)) → Held n vs hs → Held n vs′ (set hs v (getD hs w none)))
-      → Did n cap ks xs vs′ zs ms cs log work u r (acted s (Copy v w) h)
-  unfolding acted act hold var logs value
-  did-copy v w D e k = call-did (Copy v w) D (record { cells = W .rows .cells; held = k (h .shape .variables) (shown-of W .held) }) (logged-same (W .logged)) e
+      → Did n cap ks xs vs′ zs ms cs log work u r (doDeed (Copy v w) h)
+  unfolding act hold var logs value
+  did-copy v w D e k = deed-did (Copy v w) D (record { cells = W .rows .cells; held = k (h .shape .variables) (shown-of W .held) }) (logged-same (W .logged)) e
 
   pub did-clear : {vs′ : List ℤ} {x : ℤ} (v : ℕ) → Plain len first x r → x ≡ pos 0 → ((hs : List (Option ℕ)) → Held n vs hs → Held n vs′ (set hs v none))
-      → Did n cap ks xs vs′ zs ms cs log work u r (acted s (Clear v) h)
-  unfolding acted act hold logs value
-  did-clear v D e k = call-did (Clear v) D (record { cells = W .rows .cells; held = k (h .shape .variables) (shown-of W .held) }) (logged-same (W .logged)) e
+      → Did n cap ks xs vs′ zs ms cs log work u r (doDeed (Clear v) h)
+  unfolding act hold logs value
+  did-clear v D e k = deed-did (Clear v) D (record { cells = W .rows .cells; held = k (h .shape .variables) (shown-of W .held) }) (logged-same (W .logged)) e
 
   pub did-follow : {vs′ : List ℤ} {x : ℤ} (v f w : ℕ) → Plain len first x r → x ≡ pos 0
-      → ((s : Shape) → Shown n ks xs vs s → Held n vs′ (set (s .variables) w (target (at s v f)))) → Did n cap ks xs vs′ zs ms cs log work u r (acted s (Follow v f w) h)
-  unfolding acted act hold logs value
-  did-follow v f w D e k = call-did (Follow v f w) D (record { cells = W .rows .cells; held = k (h .shape) (shown-of W) }) (logged-same (W .logged)) e
+      → ((s : Shape) → Shown n ks xs vs s → Held n vs′ (set (s .variables) w (target (at s v f)))) → Did n cap ks xs vs′ zs ms cs log work u r (doDeed (Follow v f w) h)
+  unfolding act hold logs value
+  did-follow v f w D e k = deed-did (Follow v f w) D (record { cells = W .rows .cells; held = k (h .shape) (shown-of W) }) (logged-same (W .logged)) e
 
   module _ {ks′ : List ℕ} {xs′ : List ℤ} {log′ : List ℕ} {len′ : ℕ} {x : ℤ} (D : Plain len′ first x r) (e : x ≡ pos 0) where
     pub did-link : (v f w : ℕ) → ((s : Shape) (ts : List Transaction) → Shown n ks xs vs s → Logged n log len ts
         → Wrote n ks′ xs′ vs log′ len′ (write s v f (toCell (var s w))) (ts ++ (drops (at s v f) ++ makes (var s w))))
-        → Did n cap ks′ xs′ vs zs ms cs log′ work u r (acted s (Link v f w) h)
-    unfolding acted act logs value
-    did-link v f w k = let o = k (h .shape) (h .log) (shown-of W) (W .logged) in call-did (Link v f w) D (o .shown) (o .logged) e
+        → Did n cap ks′ xs′ vs zs ms cs log′ work u r (doDeed (Link v f w) h)
+    unfolding act logs value
+    did-link v f w k = let o = k (h .shape) (h .log) (shown-of W) (W .logged) in deed-did (Link v f w) D (o .shown) (o .logged) e
 
     pub did-put : (v f : ℕ) (y z : ℤ) → z ≡ y → ((s : Shape) (ts : List Transaction) → Shown n ks xs vs s → Logged n log len ts
         → Wrote n ks′ xs′ vs log′ len′ (write s v f (Figure z)) (ts ++ drops (at s v f)))
-        → Did n cap ks′ xs′ vs zs ms cs log′ work u r (acted s (Put v f y) h)
-    unfolding acted act logs value
+        → Did n cap ks′ xs′ vs zs ms cs log′ work u r (doDeed (Put v f y) h)
+    unfolding act logs value
     did-put v f y z q k =
         let o = k (h .shape) (h .log) (shown-of W) (W .logged) in
-        call-did (Put v f y) D (rw q at (o .shown)) (o .logged) e
+        deed-did (Put v f y) D (rw q at (o .shown)) (o .logged) e
 
     pub did-blank : (v f : ℕ) → ((s : Shape) (ts : List Transaction) → Shown n ks xs vs s → Logged n log len ts
         → Wrote n ks′ xs′ vs log′ len′ (write s v f Nothing) (ts ++ drops (at s v f)))
-        → Did n cap ks′ xs′ vs zs ms cs log′ work u r (acted s (Blank v f) h)
-    unfolding acted act logs value
-    did-blank v f k = let o = k (h .shape) (h .log) (shown-of W) (W .logged) in call-did (Blank v f) D (o .shown) (o .logged) e
+        → Did n cap ks′ xs′ vs zs ms cs log′ work u r (doDeed (Blank v f) h)
+    unfolding act logs value
+    did-blank v f k = let o = k (h .shape) (h .log) (shown-of W) (W .logged) in deed-did (Blank v f) D (o .shown) (o .logged) e
 
   pub did-read : {x y : ℤ} (v f : ℕ) → Plain len first x r → x ≡ y → ((s : Shape) → Shown n ks xs vs s → y ≡ figureOf (at s v f))
-      → Did n cap ks xs vs zs ms cs log work u r (acted s (Read v f) h)
-  unfolding acted act logs value
-  did-read v f D e k = call-did (Read v f) D (shown-of W) (logged-same (W .logged)) (e ∙ k (h .shape) (shown-of W))
+      → Did n cap ks xs vs zs ms cs log work u r (doDeed (Read v f) h)
+  unfolding act logs value
+  did-read v f D e k = deed-did (Read v f) D (shown-of W) (logged-same (W .logged)) (e ∙ k (h .shape) (shown-of W))
 
   pub did-same : {x y : ℤ} (v w : ℕ) → Plain len first x r → x ≡ y
       → ((hs : List (Option ℕ)) → Held n vs hs → y ≡ cond (sameCell (getD hs v none) (getD hs w none)) (pos 1) (pos 0))
-      → Did n cap ks xs vs zs ms cs log work u r (acted s (Same v w) h)
-  unfolding acted act logs value var
-  did-same v w D e k = call-did (Same v w) D (shown-of W) (logged-same (W .logged)) (e ∙ k (h .shape .variables) (shown-of W .held))
+      → Did n cap ks xs vs zs ms cs log work u r (doDeed (Same v w) h)
+  unfolding act logs value var
+  did-same v w D e k = deed-did (Same v w) D (shown-of W) (logged-same (W .logged)) (e ∙ k (h .shape .variables) (shown-of W .held))
 
-  pub did-settle : {x : ℤ} → Plain len first x r → x ≡ pos 0 → Did n cap ks xs vs zs ms cs log work u r (acted s Settle h)
+  pub did-settle : {x : ℤ} (s : Sizes) (k : ℕ) → Plain len first x r → x ≡ pos k → Did n cap ks xs vs zs ms cs log work u r (acted s Settle k h)
   unfolding acted
-  did-settle D e = record { whole = rw (D .len-is, D .first-is) W; status = D .status-is; value = D .value-is ∙ e }
-
--- a call that words give names what it may name
-pub named-of : (s : Sizes) (c : Call) → Fits s c → Named (s .m) c
-named-of s (New v) F = F
-named-of s (Copy v w) F = F
-named-of s (Clear v) F = F
-named-of s (Link v f w) F = (F .1 .0, (F .0, F .1 .1))
-named-of s (Put v f x) F = (F .1 .0, F .0)
-named-of s (Blank v f) F = (F .1, F .0)
-named-of s (Follow v f w) F = (F .1 .0, (F .0, F .1 .1))
-named-of s (Read v f) F = (F .1, F .0)
-named-of s (Same v w) F = F
-named-of s Settle F = tt
+  did-settle s k D e = record { whole = rw (D .len-is, D .first-is) W; status = D .status-is; value = D .value-is ∙ e }

@@ -1,34 +1,19 @@
--- What a call does without the settle before it, and what is needed for it. Assumes nothing.
+-- What a call leaves in the rows, and what is needed for it. Assumes nothing.
 use Prim.Native.Nat.{ℕ, _+_, _*_, _<_, _≤_}
 use mathlib.Core.Path.{_≡_}
 use mathlib.Core.List.{List}
 use lib.ListN.{length}
-use lib.IntN.{ℤ, pos}
+use lib.IntN.{ℤ}
 use Rattle.rules.specs.declared.Call.{Call}
-use Rattle.rules.specs.declared.Call.the-variants.{New, Copy, Clear, Link, Put, Blank, Follow, Read, Same, Settle}
 use Rattle.rules.specs.declared.Field.{Field}
 use Rattle.rules.specs.declared.Used.{Used}
-use Rattle.rules.specs.declared.Sizes.{Sizes}
 use Rattle.rules.specs.Rules.{Transaction}
-use Rattle.rules.specs.Settle.{Shape, Heap, drops}
-use Rattle.rules.specs.Call.{var, at, isHeld, want, check}
-use Rattle.rules.specs.Step.{Stepped, done, doNew, doCall}
+use Rattle.rules.specs.Settle.{Shape, drops}
+use Rattle.rules.specs.Call.{Fits, var, at, isHeld, want, check}
+use Rattle.rules.specs.Step.{Stepped, needs}
 use Rattle.rules.specs.Whole.{Inside, Logged, Whole}
 use Rattle.calls.specs.declared.Acted.{Acted}
-use Rattle.before.specs.Seen.{Shown, Named, needs}
-
--- a call after its settle, if there was one; a settle call's own settle and its value are the caller's
-unfoldable pub acted : Sizes → Call → Heap → Stepped
-acted s (New v) h = doNew s v h
-acted s (Copy v w) h = doCall (Copy v w) h
-acted s (Clear v) h = doCall (Clear v) h
-acted s (Link v f w) h = doCall (Link v f w) h
-acted s (Put v f x) h = doCall (Put v f x) h
-acted s (Blank v f) h = doCall (Blank v f) h
-acted s (Follow v f w) h = doCall (Follow v f w) h
-acted s (Read v f) h = doCall (Read v f) h
-acted s (Same v w) h = doCall (Same v w) h
-acted s Settle h = done h (pos 0)
+use Rattle.before.specs.Seen.{Shown}
 
 -- the rows are the heap of o, and r has its lengths and its answer
 pub record Did (n cap : ℕ) (ks : List ℕ) (xs vs : List ℤ) (zs ms cs log work : List ℕ) (u : Used) (r : Acted) (o : Stepped) : Type 0 where
@@ -88,7 +73,7 @@ pub record Able (n : ℕ) (ks : List ℕ) (xs vs : List ℤ) (log : List ℕ) (l
   pub within : first ≤ n
   pub shape : Shape
   pub shown : Shown n ks xs vs shape
-  pub named : Named (length vs) c
+  pub fits : Fits (length vs) c
   pub right : check c shape ≡ 0
   pub entries : List Transaction
   pub logged : Logged n log len entries

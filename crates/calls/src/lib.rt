@@ -6,16 +6,17 @@ ghost use mathlib.Core.Option.{Option, none};
 ghost use Prim.Native.Nat.{ℕ, _<_, _≤_};
 ghost use lib.ListN.{length, getD, set};
 ghost use lib.IntN.{pos};
+ghost use Rattle.rules.specs.declared.Call.the-variants.{Do};
 ghost use Rattle.rules.specs.declared.Used.{Used};
 ghost use Rattle.rules.specs.declared.Sizes.{Sizes};
 ghost use Rattle.rules.specs.Rules.{Transaction};
 ghost use Rattle.rules.specs.Settle.{Shape, Heap, drops};
 ghost use Rattle.rules.specs.Call.{var, at, makes, write, toCell, target, figureOf, sameCell};
-ghost use Rattle.rules.specs.Step.{doNew};
+ghost use Rattle.rules.specs.Step.{noneFree, doNew, doDeed, acted};
 ghost use Rattle.rules.specs.Whole.{Inside, Logged, Whole};
 ghost use Rattle.cells.specs.Leaves.{heldAs};
 ghost use Rattle.before.specs.Seen.{Held, Shown, Reach};
-ghost use Rattle.calls.specs.Doing.{acted, Did, Plain, Wrote, Writable, Linkable, Takeable, Able};
+ghost use Rattle.calls.specs.Doing.{Did, Plain, Wrote, Writable, Linkable, Takeable, Able};
 use before::field_of;
 use cells::add_entry;
 use cells::field_at;
@@ -24,7 +25,9 @@ use cells::hold;
 use cells::log_old;
 use cells::put_field;
 use cells::take_free;
+use cells::value_of;
 use rules::Call;
+use rules::Deed;
 use rules::Field;
 
 // What a call leaves: the log's length, the first free address, its status and value.
@@ -189,7 +192,7 @@ fn take(
     v: usize,
 ) -> Acted
     requires { ⌜ Takeable n (now kinds) (now values) (now variables) (now log) len first v ⌝ }
-    ensures { λ r. ⌜ ((s : Sizes) (cap : ℕ) (zs ms cs work : List ℕ) (u : Used) (h : Heap) → s .n ≡ n → Whole n cap (now (kinds .entry)) (now (values .entry)) (now (variables .entry)) zs ms cs (now (log .entry)) work len first u h → Did n cap (now (kinds .exit)) (now (values .exit)) (now (variables .exit)) zs ms cs (now (log .exit)) work u r (doNew s v h)) ⌝ }
+    ensures { λ r. ⌜ ((s : Sizes) (cap : ℕ) (zs ms cs work : List ℕ) (u : Used) (h : Heap) → s .n ≡ n → Whole n cap (now (kinds .entry)) (now (values .entry)) (now (variables .entry)) zs ms cs (now (log .entry)) work len first u h → Did n cap (now (kinds .exit)) (now (values .exit)) (now (variables .exit)) zs ms cs (now (log .exit)) work u r (doNew (noneFree s h) v h)) ⌝ }
 {
     if first == n {
         return Acted {
@@ -205,7 +208,43 @@ fn take(
     done(l, next, 0)
 }
 
-// What a call does, after the settle before it: it was not refused by 11 to 13, and its entries have room in the log.
+// What a deed does: it was not refused by 11 to 13, and its entries have room in the log.
+fn do_deed(
+    deed: Deed,
+    kinds: &mut [u8],
+    values: &mut [i32],
+    variables: &mut [i32],
+    log: &mut [u32],
+    n: usize,
+    len: usize,
+    first: usize,
+) -> Acted
+    requires { ⌜ Able n (now kinds) (now values) (now variables) (now log) len first (Do deed) ⌝ }
+    ensures { λ r. ⌜ ((cap : ℕ) (zs ms cs work : List ℕ) (u : Used) (h : Heap) → Whole n cap (now (kinds .entry)) (now (values .entry)) (now (variables .entry)) zs ms cs (now (log .entry)) work len first u h → Did n cap (now (kinds .exit)) (now (values .exit)) (now (variables .exit)) zs ms cs (now (log .exit)) work u r (doDeed deed h)) ⌝ }
+{
+    match deed {
+        Deed::Copy(v, w) => done(len, first, copy(variables, n, v, w)),
+        Deed::Clear(v) => done(len, first, let_go(variables, n, v)),
+        Deed::Link(v, f, w) => {
+            let l = link(kinds, values, variables, log, n, len, v, f, w);
+            done(l, first, 0)
+        }
+        Deed::Put(v, f, x) => {
+            let to = Field::Figure(x);
+            let l = write(kinds, values, variables, log, n, len, v, f, to);
+            done(l, first, 0)
+        }
+        Deed::Blank(v, f) => {
+            let l = write(kinds, values, variables, log, n, len, v, f, Field::Nothing);
+            done(l, first, 0)
+        }
+        Deed::Follow(v, f, w) => done(len, first, follow(kinds, values, variables, n, v, f, w)),
+        Deed::Read(v, f) => done(len, first, read(kinds, values, variables, n, v, f)),
+        Deed::Same(v, w) => done(len, first, same(variables, n, v, w)),
+    }
+}
+
+// What a call does, after the settle before it, which freed so many cells.
 pub fn act(
     call: Call,
     kinds: &mut [u8],
@@ -215,30 +254,14 @@ pub fn act(
     n: usize,
     len: usize,
     first: usize,
+    freed: usize,
 ) -> Acted
-    requires { ⌜ Able n (now kinds) (now values) (now variables) (now log) len first call ⌝ }
-    ensures { λ r. ⌜ ((s : Sizes) (cap : ℕ) (zs ms cs work : List ℕ) (u : Used) (h : Heap) → s .n ≡ n → Whole n cap (now (kinds .entry)) (now (values .entry)) (now (variables .entry)) zs ms cs (now (log .entry)) work len first u h → Did n cap (now (kinds .exit)) (now (values .exit)) (now (variables .exit)) zs ms cs (now (log .exit)) work u r (acted s call h)) ⌝ }
+    requires { ⌜ Able n (now kinds) (now values) (now variables) (now log) len first call × (freed ≤ 1024) ⌝ }
+    ensures { λ r. ⌜ ((s : Sizes) (cap : ℕ) (zs ms cs work : List ℕ) (u : Used) (h : Heap) → s .n ≡ n → Whole n cap (now (kinds .entry)) (now (values .entry)) (now (variables .entry)) zs ms cs (now (log .entry)) work len first u h → Did n cap (now (kinds .exit)) (now (values .exit)) (now (variables .exit)) zs ms cs (now (log .exit)) work u r (acted s call freed h)) ⌝ }
 {
     match call {
         Call::New(v) => take(kinds, values, variables, log, n, len, first, v),
-        Call::Copy(v, w) => done(len, first, copy(variables, n, v, w)),
-        Call::Clear(v) => done(len, first, let_go(variables, n, v)),
-        Call::Link(v, f, w) => {
-            let l = link(kinds, values, variables, log, n, len, v, f, w);
-            done(l, first, 0)
-        }
-        Call::Put(v, f, x) => {
-            let to = Field::Figure(x);
-            let l = write(kinds, values, variables, log, n, len, v, f, to);
-            done(l, first, 0)
-        }
-        Call::Blank(v, f) => {
-            let l = write(kinds, values, variables, log, n, len, v, f, Field::Nothing);
-            done(l, first, 0)
-        }
-        Call::Follow(v, f, w) => done(len, first, follow(kinds, values, variables, n, v, f, w)),
-        Call::Read(v, f) => done(len, first, read(kinds, values, variables, n, v, f)),
-        Call::Same(v, w) => done(len, first, same(variables, n, v, w)),
-        Call::Settle => done(len, first, 0),
+        Call::Do(deed) => do_deed(deed, kinds, values, variables, log, n, len, first),
+        Call::Settle => done(len, first, value_of(freed)),
     }
 }

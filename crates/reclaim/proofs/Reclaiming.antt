@@ -16,7 +16,7 @@ use Rattle.rules.specs.declared.Field.{Field}
 use Rattle.rules.specs.declared.Field.the-variants.{Nothing, Figure, Cell, Free}
 use Rattle.rules.specs.Table.{has, Ascending}
 use Rattle.rules.specs.Rules.{Tables, destroys, leaveZct, apply, replay}
-use Rattle.rules.specs.Settle.{Heap, holds, pick, drops, freeCell, reclaim}
+use Rattle.rules.specs.Settle.{Heap, field, holds, pick, drops, freeCell, reclaim}
 use Rattle.rules.specs.Rows.{HeapRows}
 use Rattle.rules.specs.Whole.{Rows}
 use Rattle.rules.specs.Invariant.{View, view}
@@ -215,7 +215,9 @@ module _ {n cap : ℕ} {hs : List (Option ℕ)} {k : ℕ} {r : HeapRows} {at : S
             len = F .len ∙ G .len;
             count = omega arith;
             below = λ w o b.
-                let q = has-released cap (getD (r .tables .zct) p 0) w _ _ (reclaim cap hs k h .tables) (rw (F .low) at b) (rw e at o) in
+                let a : ℕ = getD (r .tables .zct) p 0 in
+                let fs = reclaim cap hs k h .shape .fields in
+                let q = has-released cap a w (field fs a 0) (field fs a 1) (reclaim cap hs k h .tables) (rw (F .low) at b) (rw e at o) in
                 let g = entry p l in
                 let r = has-before (reclaim cap hs k h .tables .zct) p w (G .rows .ready .kept .zct-up) (omega arith) (q .1) (rw (← g) at (q .0)) in
                 rw (r .1) at (held-before (place w (reclaim cap hs k h .tables .zct)) (r .0));

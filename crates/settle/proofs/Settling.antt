@@ -89,19 +89,16 @@ pub settled-whole : {s : Sizes} {r : Lent} {at o : State} {h : Heap} → Settled
 unfolding settled
 settled-whole S = S .whole
 
+-- a caller whose variables' row is the heap's can settle
+pub settleable : {s : Sizes} {r : Lent} {at : State} {h : Heap} → Whole s r at h → at .freed ≤ 1000000 → Settleable s r at
+settleable {r = r} {h = h} W few = record { heap = h; own = r .variables; holds = h .shape .variables; whole = W; counted = W .variables-are; few = few }
+
 -- ---- a settle where one is to be made
 
-module _ {s : Sizes} {r : Lent} {at : State} {h : Heap} (W : Whole s r at h) where
-  -- a caller whose variables' row is the heap's can settle
-  pub settleable : at .freed ≤ 1000000 → Settleable s r at
-  settleable few = record { heap = h; own = r .variables; holds = h .shape .variables; whole = W; counted = W .variables-are; few = few }
+pub room-as-is : {s : Sizes} {r : Lent} {at : State} {make : Bool} → make ≡ false → MakesRoom make s r at r at
+unfolding settledIf
+room-as-is e own hs h W c = rw e (record { whole = W; few = omega arith; work-is = refl })
 
-  pub room-as-is : {b : Bool} → b ≡ false → RoomMade b s r at h r at
-  unfolding settledIf
-  room-as-is e = rw e (record { whole = W; few = omega arith; work-is = refl })
-
-  pub room-made : {b : Bool} {r′ : Lent} {o : State} → b ≡ true → Settles s r at r′ o → r′ .variables ≡ r .variables → RoomMade b s r at h r′ o
-  unfolding settledIf settled
-  room-made e f v =
-      let S = f (r .variables) (h .shape .variables) h W (W .variables-are) in
-      rw e (record { whole = rw v (S .whole); few = S .few; work-is = S .work-zero })
+pub room-made : {make : Bool} {s : Sizes} {hs : List (Option ℕ)} {r r′ : Lent} {at o : State} {h : Heap} → make ≡ true → Settled s hs r′ at h o → RoomMade make s hs r at h r′ o
+unfolding settledIf
+room-made e S = rw e (record { whole = S .whole; few = S .few; work-is = S .work-zero })

@@ -37,12 +37,13 @@ pub record Settled (s : Sizes) (hs : List (Option ℕ)) (r : Lent) (at : State) 
 abbrev pub Settles : Sizes → Lent → State → Lent → State → Type 0
 Settles s r at r′ o = (own : List ℤ) (hs : List (Option ℕ)) (h : Heap) → Whole s (holding own r) at h → r .variables ≡ map variableOf hs → Settled s hs (holding own r′) at h o
 
--- all rows are h, settled where make says so; the work row is zero where it was, else as it was
-pub record RoomMade (make : Bool) (s : Sizes) (r : Lent) (at : State) (h : Heap) (r′ : Lent) (o : State) : Type 0 where
-  pub whole : Whole s r′ o (settledIf make s h)
+-- all rows are h, after a settle that counts hs where make says so; the work row is zero where one was made, else as it was
+pub record RoomMade (make : Bool) (s : Sizes) (hs : List (Option ℕ)) (r : Lent) (at : State) (h : Heap) (r′ : Lent) (o : State) : Type 0 where
+  pub whole : Whole s r′ o (settledIf make s hs h)
   pub few : o .freed ≤ at .freed + s .n
   pub work-is : r′ .work ≡ cond make (replicate (s .n) 0) (r .work)
 
--- rows that are a heap are that heap, settled where make says so
+-- rows that are a heap are that heap, after such a settle where make says so
 abbrev pub MakesRoom : Bool → Sizes → Lent → State → Lent → State → Type 0
-MakesRoom make s r at r′ o = (h : Heap) → Whole s r at h → RoomMade make s r at h r′ o
+MakesRoom make s r at r′ o =
+    (own : List ℤ) (hs : List (Option ℕ)) (h : Heap) → Whole s (holding own r) at h → r .variables ≡ map variableOf hs → RoomMade make s hs (holding own r) at h (holding own r′) o

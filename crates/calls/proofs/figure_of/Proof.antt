@@ -1,4 +1,3 @@
-use Rattle.rules.specs.Call.{figureOf}
 use borrow.Author.Needs.{needs}
 use Rattle.calls.proofs.figure_of.Statement.{statement}
 use Rattle.calls.proofs.figure_of.Tie as tie
@@ -16,22 +15,18 @@ enum-told-3 : tie.Need-enum-told-3
 enum-told-3 c = search needs
 
 returns : tie.Need-returns
-unfolding figureOf
 returns c =
     rw (c .enum-told .given .1)
 
 returns-2 : tie.Need-returns-2
-unfolding figureOf
 returns-2 c =
     rw (c .before .f .given .1) (search needs)
 
 returns-3 : tie.Need-returns-3
-unfolding figureOf
 returns-3 c =
     rw (c .enum-told2 .given .1)
 
 returns-4 : tie.Need-returns-4
-unfolding figureOf
 returns-4 c =
     rw (c .enum-told3 .given .1)
 

@@ -1,6 +1,5 @@
 use borrow.Author.Tests.{lt-ltb}
 use Rattle.calls.proofs.Acting.{no-address}
-use Rattle.rules.specs.Call.{target}
 use borrow.Author.Needs.{needs}
 use Rattle.calls.proofs.target_or.Statement.{statement}
 use Rattle.calls.proofs.target_or.Tie as tie
@@ -18,22 +17,18 @@ enum-told-3 : tie.Need-enum-told-3
 enum-told-3 c = search needs
 
 returns : tie.Need-returns
-unfolding target
 returns c =
     λ I. rw (c .enum-told .given .1) (no-address (c .before .before .args .n))
 
 returns-2 : tie.Need-returns-2
-unfolding target
 returns-2 c =
     λ I. rw (c .enum-told2 .given .1) (no-address (c .before .before .args .n))
 
 returns-3 : tie.Need-returns-3
-unfolding target
 returns-3 c =
     λ I. rw (c .before .f .given .1, lt-ltb _ _ (rw (c .before .f .given .1) at I))
 
 returns-4 : tie.Need-returns-4
-unfolding target
 returns-4 c =
     λ I. rw (c .enum-told3 .given .1) (no-address (c .before .before .args .n))
 

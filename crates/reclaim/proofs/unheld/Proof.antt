@@ -29,21 +29,21 @@ shared-slice-read-a c = search needs
 
 cast-a : tie.Need-cast-a Inv-loop μ-loop
 cast-a c =
-    let s = c .before .before .before .before .before .before in
+    let s : tie.Start Inv-loop μ-loop = search needs in
     let l = c .before .before .loop in
     let h = s .pre .small (l .p) (c .before .loop-test .taken) in
     record { fits = omega (arith, s .good .1 .1 .0) }
 
 mul-if1 : tie.Need-mul-if1 Inv-loop μ-loop
 mul-if1 c =
-    let s = c .before .before .before .before .before .before in
+    let s : tie.Start Inv-loop μ-loop = search needs in
     let l = c .before .before .loop in
     let h = s .pre .small (l .p) (c .before .loop-test .taken) in
     search needs
 
 shared-slice-read-if1 : tie.Need-shared-slice-read-if1 Inv-loop μ-loop
 shared-slice-read-if1 c =
-    let s = c .before .before .before .before .before .before .before in
+    let s : tie.Start Inv-loop μ-loop = search needs in
     let l = c .before .before .before .loop in
     let h = s .pre .small (l .p) (c .before .before .loop-test .taken) in
     h

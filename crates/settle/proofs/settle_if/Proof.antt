@@ -1,6 +1,5 @@
 -- `settle::settle_if` meets its contract. Assumes nothing.
 use borrow.Author.Needs.{needs}
-use mathlib.Core.Path.{refl}
 use Rattle.settle.proofs.Settling.{room-made, room-as-is}
 use Rattle.settle.proofs.settle_if.Statement.{statement}
 use Rattle.settle.proofs.settle_if.Tie as tie
@@ -32,11 +31,10 @@ same-length-7 c = search needs
 returns : tie.Need-returns
 returns c = let r : tie.After-settle = search needs in
     let t : tie.Then1 = search needs in
-    λ h W.
-    room-made W (t .if1 .taken) (r .settle .ensures) refl
+    λ own hs h W e. room-made (t .if1 .taken) (r .settle .ensures own hs h W e)
 
 returns-2 : tie.Need-returns-2
-returns-2 c = λ h W. room-as-is W (c .if1 .left)
+returns-2 c = room-as-is (c .if1 .left)
 
 pub settle-if-spec : {M : Type 1} → statement M
 settle-if-spec =

@@ -9,7 +9,7 @@ use Rattle.tables.proofs.Pairs.{pair-used, pair-row, pair-count, counte
 
 -- where a stands, once found
 abbrev start : tie.After-find → tie.Start
-start c = c .before .before .before .before
+start c = search needs
 
 used-at : (c : tie.After-find) → c .find .result < start c .args .used
 used-at c = pair-used (start c .pre .0) (start c .args .a) (c .find .result) (c .find .ensures) (start c .pre .1)
@@ -30,7 +30,7 @@ cut-at-requires : tie.Need-cut-at-requires
 cut-at-requires c κs = (start (c .before .before .before) .pre .0 .listed .padded, used-at (c .before .before .before))
 
 cut-at-requires-2 : tie.Need-cut-at-requires-2
-cut-at-requires-2 c κs = let f = c .before .before .before .before .before .before .before in
+cut-at-requires-2 c κs = let f : tie.After-find = search needs in
     (start f .pre .0 .beside, used-at f)
 
 same-length : tie.Need-same-length
@@ -40,7 +40,7 @@ same-length-2 : tie.Need-same-length-2
 same-length-2 c = search needs
 
 returns : tie.Need-returns
-returns c = let p1 = c .before .before .before .before .before .before in
+returns c = let p1 : tie.After-cut-at = search needs in
     let f = p1 .before .before .before .before in
     counted-out (start f .pre .0) (start f .args .a) (f .find .result) (f .find .ensures) (start f .pre .1)
     (p1 .before .before .if1 .taken) (c .before .before .cut-at2 .ensures .0) (p1 .cut-at .ensures .1) (c .before .before .cut-at2 .ensures .1)

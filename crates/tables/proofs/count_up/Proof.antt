@@ -12,7 +12,7 @@ use Rattle.tables.proofs.Single.{place-fits}
 use Rattle.tables.proofs.Pairs.{pair-row, pair-count, pair-room, counted-up, counted-in}
 
 abbrev start : tie.After-is-at → tie.Start
-start c = c .before .before .before .before .before .before
+start c = search needs
 
 abbrev found : tie.After-is-at → tie.After-find
 found c = c .before .before

@@ -9,7 +9,7 @@ use Rattle.rules.specs.Table.{has}
 use Rattle.tables.proofs.Steps.{zct-listed, mrt-counted, mrt-small, created-zct, created-mrt}
 
 abbrev start : tie.After-is-at → tie.Start
-start c = c .before .before .before .before .before .before .before
+start c = search needs
 
 there : (c : tie.Then1) → has (start (c .before) .args .a) (take (start (c .before) .args .used .zct) (start (c .before) .args .zct .now)) ≡ true
 there c = sym (c .before .is-at .ensures) ∙ c .if1 .taken
@@ -23,7 +23,7 @@ find-requires c κs = let s = c .before .before .before .before in
     (L .padded .fits, L .up)
 
 is-at-requires : tie.Need-is-at-requires
-is-at-requires c κs = let s = c .before .before .before .before .before .before in
+is-at-requires c κs = let s : tie.Start = search needs in
     let L = zct-listed (s .pre .0 .ready) in
     (L .padded .fits, (L .up, c .before .find .ensures))
 

@@ -16,7 +16,7 @@ same-length : tie.Need-same-length
 same-length c = search needs
 
 returns : tie.Need-returns
-returns c = let s = c .before .before .before .before .before .before .before in
+returns c = let s : tie.Start = search needs in
     let f = c .before .before .before .before .find in
     let t = c .before .before .cut-at .ensures in
     leave-cut (s .pre .0) (s .args .a) (f .result) (f .ensures) (s .pre .1) (t .0) (t .1)
