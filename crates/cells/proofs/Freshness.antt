@@ -14,7 +14,10 @@ use Rattle.rules.specs.Field.{kindOf, valueOf, variableOf}
 use Rattle.rules.specs.declared.Sizes.{Sizes}
 use Rattle.rules.specs.Table.{pad}
 use Rattle.rules.specs.Step.{freeFrom, fresh}
-use Rattle.rules.specs.Rows.{lent, rowsOf}
+use Rattle.rules.specs.Head.{freshHead}
+use Rattle.rules.specs.Rows.{Lent, lent, rowsOf}
+use Rattle.rules.specs.Sound.{Sized}
+use Rattle.rules.proofs.Whole.{lent-as}
 use Rattle.rules.proofs.Fresh.{fresh-len}
 use Rattle.cells.proofs.Filling.{put-two}
 
@@ -58,28 +61,24 @@ map-none (suc m) = ap (λ (l : List ℤ). negsuc 0 ∷ l) (map-none m)
 pad-none : (n : ℕ) → replicate n 0 ≡ pad n []
 pad-none n = let d : n ≡ n - 0 = omega arith in ap (λ (j : ℕ). replicate j 0) d
 
-lent-as : {ks ks′ : List ℕ} {xs xs′ vs vs′ : List ℤ} {zs zs′ ms ms′ cs cs′ ls ls′ ws ws′ : List ℕ}
-    → ks ≡ ks′ → xs ≡ xs′ → vs ≡ vs′ → zs ≡ zs′ → ms ≡ ms′ → cs ≡ cs′ → ls ≡ ls′ → ws ≡ ws′
-    → lent ks xs vs zs ms cs ls ws ≡ lent ks′ xs′ vs′ zs′ ms′ cs′ ls′ ws′
-lent-as ek ex ev ez em ec el ew = rw (ek, ex, ev, ez, em, ec, el, ew)
-
 -- a cleared row of n is the empty table's
 cleared : {z n : ℕ} (zs : List ℕ) → zs ≡ replicate z 0 → z ≡ n → zs ≡ pad n []
 cleared {z} {n} zs e h = e ∙ rw h (pad-none n)
 
-pub rows-fresh : {n z a c w m l : ℕ} {ks : List ℕ} {xs vs : List ℤ} {zs ms cs ls ws : List ℕ}
-    → ks ≡ map kindOf (freeFrom 0 n) → xs ≡ map valueOf (freeFrom 0 n) → vs ≡ replicate m (negsuc 0)
-    → zs ≡ replicate z 0 → ms ≡ replicate a 0 → cs ≡ replicate c 0 → ls ≡ replicate l 0 → ws ≡ replicate w 0
-    → z ≡ n → a ≡ n → c ≡ n → w ≡ n
-    → (s : Sizes) → s .n ≡ n → s .m ≡ m → 2 * s .l ≡ l → lent ks xs vs zs ms cs ls ws ≡ rowsOf s (fresh s)
+pub rows-fresh : {s : Sizes} {r : Lent} {ks : List ℕ} {xs vs : List ℤ} {zs ms cs log work : List ℕ} → Sized (freshHead s) r
+    → ks ≡ map kindOf (freeFrom 0 (s .n)) → xs ≡ map valueOf (freeFrom 0 (s .n)) → vs ≡ replicate (length (r .variables)) (negsuc 0)
+    → zs ≡ replicate (length (r .tables .zct)) 0 → ms ≡ replicate (length (r .tables .mrt)) 0 → cs ≡ replicate (length (r .tables .counts)) 0
+    → log ≡ replicate (length (r .log)) 0 → work ≡ replicate (length (r .work)) 0
+    → lent ks xs vs zs ms cs log work ≡ rowsOf s (fresh s)
 unfolding rowsOf fresh
-rows-fresh {n} {w = w} {m = m} ek ex ev ez em ec el ew hz ha hc hw s hn hm hl =
+rows-fresh {s} Z ek ex ev ez em ec el ew =
+    let l = Z .lengths in
     lent-as
-    (ek ∙ rw hn)
-    (ex ∙ rw hn)
-    (ev ∙ rw (← hm) (sym (map-none (s .m))))
-    (cleared _ ez (hz ∙ sym hn))
-    (cleared _ em (ha ∙ sym hn))
-    (cleared _ ec (hc ∙ sym hn))
-    (cleared _ el (sym hl))
-    (ew ∙ rw (hw, hn))
+    ek
+    ex
+    (ev ∙ rw (l .for-variables) (sym (map-none (s .m))))
+    (cleared _ ez (l .for-zct))
+    (cleared _ em (l .for-mrt))
+    (cleared _ ec (l .for-counts))
+    (cleared _ el (l .for-log))
+    (ew ∙ rw (l .for-work))

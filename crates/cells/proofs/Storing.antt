@@ -70,7 +70,6 @@ stored-first a x C I e g =
 
 -- the free address after a is within the heap
 after-inside : (n : ℕ) (f : Field) → Inside n f → after f ≤ n
-unfolding after
 after-inside n Nothing I = omega arith
 after-inside n (Figure x) I = omega arith
 after-inside n (Cell b) I = omega arith

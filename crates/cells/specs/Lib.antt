@@ -3,4 +3,3 @@ pub mod Leaves
 pub mod Log
 pub mod Free
 pub mod Marks
-pub mod Fresh

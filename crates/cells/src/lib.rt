@@ -8,18 +8,20 @@ ghost use lib.IntN.{pos, negsuc};
 ghost use Rattle.rules.specs.declared.Field.{Field};
 ghost use Rattle.rules.specs.declared.Field.the-variants.{Nothing, Free};
 ghost use Rattle.rules.specs.Field.{addressOf, fieldOf, kindOf, valueOf, variableOf};
-ghost use Rattle.rules.specs.declared.Sizes.{Sizes};
+ghost use Rattle.rules.specs.Head.{freshHead};
 ghost use Rattle.rules.specs.Rules.{Transaction};
-ghost use Rattle.rules.specs.Settle.{store, drops};
+ghost use Rattle.rules.specs.Settle.{drops};
 ghost use Rattle.rules.specs.Step.{after, freeFrom, fresh};
-ghost use Rattle.rules.specs.Rows.{lent, rowsOf};
+ghost use Rattle.rules.specs.Rows.{rowsOf};
+ghost use Rattle.rules.specs.Lending.{rowsNow, exits};
+ghost use Rattle.rules.specs.Sound.{Sized};
 ghost use Rattle.rules.specs.Whole.{Inside, Cells, Logged};
 ghost use Rattle.cells.specs.Leaves.{heldAs};
 ghost use Rattle.cells.specs.Log.{transaction, Noted};
-ghost use Rattle.cells.specs.Free.{Taken};
+ghost use Rattle.cells.specs.Free.{Taken, FreedTo};
 ghost use Rattle.cells.specs.Marks.{Marks};
-ghost use Rattle.cells.specs.Fresh.{Fitting};
 use rules::Field;
+use rules::Sizes;
 
 // The address that a signed value is; a negative one is none, for which other is given.
 pub fn address_or(x: i32, other: usize) -> usize
@@ -181,7 +183,7 @@ pub fn free_cell(kinds: &mut [u8], values: &mut [i32], a: usize, next: usize)
     requires { ⌜ next ≤ 1024 ⌝ }
     ensures kinds { λ _. ⌜ now (kinds .exit) ≡ set (set (now (kinds .entry)) (2 * a) (kindOf (Free next))) (2 * a + 1) (kindOf Nothing) ⌝ }
     ensures values { λ _. ⌜ now (values .exit) ≡ set (set (now (values .entry)) (2 * a) (valueOf (Free next))) (2 * a + 1) (valueOf Nothing) ⌝ }
-    ensures cells { λ _. ⌜ ((n : ℕ) (fs : List Field) → Cells n (now (kinds .entry)) (now (values .entry)) fs → next ≤ n → Cells n (now (kinds .exit)) (now (values .exit)) (store (store fs a 0 (Free next)) a 1 Nothing)) ⌝ }
+    ensures cells { λ _. ⌜ FreedTo a next (now (kinds .entry)) (now (values .entry)) (now (kinds .exit)) (now (values .exit)) ⌝ }
 {
     put_field(kinds, values, 2 * a, Field::Free(next));
     put_field(kinds, values, 2 * a + 1, Field::Nothing);
@@ -256,7 +258,7 @@ fn fill_nothing(variables: &mut [i32])
     }
 }
 
-// A fresh heap of n cells, written into the rows.
+// A fresh heap of these sizes, written into the rows.
 pub fn fresh_rows(
     kinds: &mut [u8],
     values: &mut [i32],
@@ -266,12 +268,12 @@ pub fn fresh_rows(
     counts: &mut [u32],
     log: &mut [u32],
     work: &mut [u32],
-    n: usize,
+    sizes: Sizes,
 )
-    requires { ⌜ Fitting n (now kinds) (now values) (now zct) (now mrt) (now counts) (now work) ⌝ }
-    ensures { λ _. ⌜ ((s : Sizes) → s .n ≡ n → s .m ≡ length (now (variables .entry)) → 2 * s .l ≡ length (now (log .entry)) → lent (now (kinds .exit)) (now (values .exit)) (now (variables .exit)) (now (zct .exit)) (now (mrt .exit)) (now (counts .exit)) (now (log .exit)) (now (work .exit)) ≡ rowsOf s (fresh s)) ⌝ }
+    requires { ⌜ Sized (freshHead sizes) (rowsNow kinds values variables zct mrt counts log work) ⌝ }
+    ensures { λ _. ⌜ exits kinds values variables zct mrt counts log work ≡ rowsOf sizes (fresh sizes) ⌝ }
 {
-    fresh_cells(kinds, values, n);
+    fresh_cells(kinds, values, sizes.n);
     fill_nothing(variables);
     clear(zct);
     clear(mrt);

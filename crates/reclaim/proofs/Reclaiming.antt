@@ -9,17 +9,17 @@ use native.Mathlib.Numerals.{add-one}
 use native.Mathlib.Omega.{arith}
 use lib.ListN.{length, take, getD}
 use lib.Seq.{getD-take}
-use lib.IntN.{ℤ}
 use lib.Dec.{ltb}
 use borrow.Author.Tests.{ltb-true, ltb-false, ne-eqb}
-use Rattle.rules.specs.declared.Used.{Used}
+use Rattle.rules.specs.declared.State.{State}
 use Rattle.rules.specs.declared.Field.{Field}
 use Rattle.rules.specs.declared.Field.the-variants.{Nothing, Figure, Cell, Free}
 use Rattle.rules.specs.Table.{has, Ascending}
 use Rattle.rules.specs.Rules.{Tables, destroys, leaveZct, apply, replay}
 use Rattle.rules.specs.Settle.{Heap, holds, pick, drops, freeCell, reclaim}
+use Rattle.rules.specs.Rows.{HeapRows}
 use Rattle.rules.specs.Whole.{Rows}
-use Rattle.rules.proofs.Invariant.{View, view}
+use Rattle.rules.specs.Invariant.{View, view}
 use Rattle.rules.proofs.Tables.{view-other, remove-other}
 use Rattle.rules.proofs.Sorted.{replay-append}
 use Rattle.rules.proofs.Reclaim.{reclaim-last}
@@ -30,9 +30,8 @@ use Rattle.tables.proofs.Places.{has-place, has-at}
 use Rattle.tables.proofs.Single.{all-at, is-padded}
 use Rattle.cells.specs.Marks.{Marks}
 use Rattle.cells.proofs.Storing.{cell-lengths}
-use Rattle.reclaim.specs.declared.Turn.{Turn}
-use Rattle.reclaim.specs.declared.Reclaimed.{Reclaimed}
 use Rattle.reclaim.specs.Reclaiming.{lowTo, Heaped, Freed, Scan, Unheld, Done}
+use Rattle.reclaim.specs.declared.Turn.{Turn}
 
 -- ---- turns
 
@@ -104,7 +103,7 @@ low-le low b = go (ltb b low) refl
 
 -- below low nothing comes in with a field that is let go
 has-gone : (cap low w : ℕ) (f : Field) (t : Tables) → w < lowTo low f → has w (replay cap (drops f) t .zct) ≡ true → (w < low) × (has w (t .zct) ≡ true)
-unfolding drops replay
+unfolding replay
 has-gone cap low w Nothing t l h = (l, h)
 has-gone cap low w (Figure x) t l h = (l, h)
 has-gone cap low w (Free b) t l h = (l, h)
@@ -129,15 +128,15 @@ mark-not true h = absurd (h refl)
 mark-not false h = refl
 
 -- the rows' lengths
-pub record Lengths (n : ℕ) (ks : List ℕ) (xs : List ℤ) (zs ms cs : List ℕ) : Type 0 where
-  pub kinds : length ks ≡ 2 * n
-  pub values : length xs ≡ 2 * n
-  pub zct : length zs ≡ n
-  pub mrt : length ms ≡ n
-  pub counts : length cs ≡ n
+pub record Lengths (n : ℕ) (r : HeapRows) : Type 0 where
+  pub kinds : length (r .kinds) ≡ 2 * n
+  pub values : length (r .values) ≡ 2 * n
+  pub zct : length (r .tables .zct) ≡ n
+  pub mrt : length (r .tables .mrt) ≡ n
+  pub counts : length (r .tables .counts) ≡ n
 
-module _ {n cap : ℕ} {ks : List ℕ} {xs : List ℤ} {zs ms cs : List ℕ} {first : ℕ} {u : Used} {h : Heap} (R : Rows n cap ks xs zs ms cs first u h) where
-  pub lengths : Lengths n ks xs zs ms cs
+module _ {n cap : ℕ} {r : HeapRows} {at : State} {h : Heap} (R : Rows n cap r at h) where
+  pub lengths : Lengths n r
   lengths =
       record {
         kinds = cell-lengths (R .cells) .0;
@@ -147,34 +146,34 @@ module _ {n cap : ℕ} {ks : List ℕ} {xs : List ℤ} {zs ms cs : List ℕ} {fi
         counts = R .ready .are .counts-is .long;
       }
 
-  pub heaped : Heaped (length zs) cap ks xs zs ms cs first u
-  heaped = rw (R .ready .are .zct-is .long) (record { heap = h; rows = R })
+  pub heaped : at .freed ≤ 2000000 → Heaped cap r at
+  heaped few = record { heap = h; rows = rw (R .ready .are .zct-is .long) R; few = few }
 
 -- the rows after k turns that each freed a cell
-pub record Going (n cap : ℕ) (hs : List (Option ℕ)) (ks : List ℕ) (xs : List ℤ) (zs ms cs : List ℕ) (s : Turn) (k : ℕ) (h : Heap) : Type 0 where
-  pub rows : Rows n cap ks xs zs ms cs (s .first) (s .used) (reclaim cap hs k h)
-  pub count : reclaim cap hs k h .freed ≡ h .freed + k
-  pub below : (w : ℕ) → has w (reclaim cap hs k h .tables .zct) ≡ true → w < s .low → holds w hs ≡ true
+pub record Going (n cap : ℕ) (hs : List (Option ℕ)) (k : ℕ) (r : HeapRows) (at : State) (h : Heap) (t : Turn) : Type 0 where
+  pub rows : Rows n cap r (t .at) (reclaim cap hs k h)
+  pub len : t .at .len ≡ at .len
+  pub count : t .at .freed ≡ at .freed + k
+  pub below : (w : ℕ) → has w (reclaim cap hs k h .tables .zct) ≡ true → w < t .low → holds w hs ≡ true
 
-pub going-first : {n cap : ℕ} {ks : List ℕ} {xs : List ℤ} {zs ms cs : List ℕ} {first : ℕ} {u : Used} {h : Heap} (hs : List (Option ℕ))
-    → Rows n cap ks xs zs ms cs first u h → Going n cap hs ks xs zs ms cs (record { first = first; used = u; low = 0 }) 0 h
+pub going-first : {n cap : ℕ} {r : HeapRows} {at : State} {h : Heap} (hs : List (Option ℕ)) → Rows n cap r at h → Going n cap hs 0 r at h (record { at = at; low = 0 })
 unfolding reclaim
-going-first hs R = record { rows = R; count = omega arith; below = λ w e l. absurd (not-suc-le-zero l) }
+going-first hs R = record { rows = R; len = refl; count = omega arith; below = λ w e l. absurd (not-suc-le-zero l) }
 
-module _ {n cap : ℕ} {hs : List (Option ℕ)} {ks : List ℕ} {xs : List ℤ} {zs ms cs work : List ℕ} {s : Turn} {k : ℕ} {h : Heap}
-    (G : Going n cap hs ks xs zs ms cs s k h) (M : Marks n work hs) where
-  entries : take (s .used .zct) zs ≡ reclaim cap hs k h .tables .zct
+module _ {n cap : ℕ} {hs : List (Option ℕ)} {k : ℕ} {r : HeapRows} {at : State} {h : Heap} {t : Turn} {work : List ℕ}
+    (G : Going n cap hs k r at h t) (M : Marks n work hs) where
+  entries : take (t .at .used .zct) (r .tables .zct) ≡ reclaim cap hs k h .tables .zct
   entries = is-take (G .rows .ready .are .zct-is)
 
-  entry : (i : ℕ) → i < s .used .zct → getD (reclaim cap hs k h .tables .zct) i 0 ≡ getD zs i 0
-  entry i l = rw (← entries) (getD-take (s .used .zct) zs i 0 l)
+  entry : (i : ℕ) → i < t .at .used .zct → getD (reclaim cap hs k h .tables .zct) i 0 ≡ getD (r .tables .zct) i 0
+  entry i l = rw (← entries) (getD-take (t .at .used .zct) (r .tables .zct) i 0 l)
 
-  small : (i : ℕ) → i < s .used .zct → getD zs i 0 < n
+  small : (i : ℕ) → i < t .at .used .zct → getD (r .tables .zct) i 0 < n
   small i l =
       let c = G .rows .ready .are .zct-is .count in
       rw (entry i l) at (all-at (λ y. y < n) (reclaim cap hs k h .tables .zct) i (G .rows .ready .kept .zct-below) (omega arith))
 
-  pub scan : Scan zs (s .used .zct) work (s .low)
+  pub scan : Scan (r .tables .zct) (t .at .used .zct) work (t .low)
   scan =
       record {
         fits = is-padded (G .rows .ready .are .zct-is) .fits;
@@ -182,55 +181,58 @@ module _ {n cap : ℕ} {hs : List (Option ℕ)} {ks : List ℕ} {xs : List ℤ} 
         small = λ i l. rw (M .long) (small i l);
         below = λ i l b.
             let c = G .rows .ready .are .zct-is .count in
-            let o : holds (getD zs i 0) hs ≡ true = G .below (getD zs i 0) (rw (entry i l) at (has-at i (reclaim cap hs k h .tables .zct) (omega arith))) b in
-            M .marks (getD zs i 0) (small i l) ∙ ap (λ (t : Bool). cond t 1 0) o;
+            let o : holds (getD (r .tables .zct) i 0) hs ≡ true = G .below (getD (r .tables .zct) i 0) (rw (entry i l) at (has-at i (reclaim cap hs k h .tables .zct) (omega arith))) b in
+            M .marks (getD (r .tables .zct) i 0) (small i l) ∙ ap (λ (t : Bool). cond t 1 0) o;
       }
 
-  module _ {p : ℕ} (U : Unheld zs (s .used .zct) work p) where
+  module _ {p : ℕ} (U : Unheld (r .tables .zct) (t .at .used .zct) work p) where
     held-before : (i : ℕ) → i < p → holds (getD (reclaim cap hs k h .tables .zct) i 0) hs ≡ true
     held-before i l =
         let w = U .within in
-        let q : i < s .used .zct = omega arith in
-        rw (entry i q) (mark-one (holds (getD zs i 0) hs) (sym (M .marks (getD zs i 0) (small i q)) ∙ U .marked i l))
+        let q : i < t .at .used .zct = omega arith in
+        rw (entry i q) (mark-one (holds (getD (r .tables .zct) i 0) hs) (sym (M .marks (getD (r .tables .zct) i 0) (small i q)) ∙ U .marked i l))
 
     -- an entry with no mark is the cell to take
-    module _ (l : p < s .used .zct) where
-      picked : pick hs (reclaim cap hs k h .tables .zct) ≡ some (getD zs p 0)
+    module _ (l : p < t .at .used .zct) where
+      picked : pick hs (reclaim cap hs k h .tables .zct) ≡ some (getD (r .tables .zct) p 0)
       picked =
           let c = G .rows .ready .are .zct-is .count in
           let g = entry p l in
           rw (← g)
           (picks-at hs (reclaim cap hs k h .tables .zct) p held-before (omega arith)
-          (rw g (mark-not (holds (getD zs p 0) hs) (λ e. U .bare l (M .marks (getD zs p 0) (small p l) ∙ e)))))
+          (rw g (mark-not (holds (getD (r .tables .zct) p 0) hs) (λ e. U .bare l (M .marks (getD (r .tables .zct) p 0) (small p l) ∙ e)))))
 
-      pub going-next : {ks′ : List ℕ} {xs′ : List ℤ} {zs′ ms′ cs′ : List ℕ} {s′ : Turn}
-          → Freed n cap ks′ xs′ zs′ ms′ cs′ s′ (getD zs p 0) (reclaim cap hs k h) → Going n cap hs ks′ xs′ zs′ ms′ cs′ s′ (k + 1) h
+      pub going-next : {r′ : HeapRows} {t′ : Turn} → Freed n cap (getD (r .tables .zct) p 0) r′ (t .at) (reclaim cap hs k h) t′ → Going n cap hs (k + 1) r′ at h t′
       unfolding freeCell
-      going-next {s′ = s′} F =
-          let e = reclaim-next cap hs h k (getD zs p 0) picked in
+      going-next {t′ = t′} F =
+          let e = reclaim-next cap hs h k (getD (r .tables .zct) p 0) picked in
           let c = G .rows .ready .are .zct-is .count in
           let d = G .count in
+          let i = F .rows .freed in
+          let j = G .rows .freed in
           record {
             rows = rw e (F .rows);
-            count = rw e (omega arith);
+            len = F .len ∙ G .len;
+            count = omega arith;
             below = λ w o b.
-                let q = has-released cap (getD zs p 0) w _ _ (reclaim cap hs k h .tables) (rw (F .low) at b) (rw e at o) in
+                let q = has-released cap (getD (r .tables .zct) p 0) w _ _ (reclaim cap hs k h .tables) (rw (F .low) at b) (rw e at o) in
                 let g = entry p l in
                 let r = has-before (reclaim cap hs k h .tables .zct) p w (G .rows .ready .kept .zct-up) (omega arith) (q .1) (rw (← g) at (q .0)) in
                 rw (r .1) at (held-before (place w (reclaim cap hs k h .tables .zct)) (r .0));
           }
 
     -- where there is none, the turns that are left change nothing
-    pub done-early : (m : ℕ) {r : Reclaimed} → s .used .zct ≤ p → k ≤ m → r ≡ record { first = s .first; used = s .used; freed = k } → Done n cap hs m ks xs zs ms cs r h
-    done-early m l o q =
+    pub done-early : (m : ℕ) → t .at .used .zct ≤ p → k ≤ m → Done n cap hs m r at h (t .at)
+    done-early m l o =
         let c = G .rows .ready .are .zct-is .count in
+        let d = G .count in
         let none-left : pick hs (reclaim cap hs k h .tables .zct) ≡ none = picks-none hs (reclaim cap hs k h .tables .zct) (λ i b. held-before i (omega arith)) in
         let j : m - k + k ≡ m = omega arith in
         let e : reclaim cap hs m h ≡ reclaim cap hs k h = rw j at (reclaim-still cap hs h k none-left (m - k)) in
-        rw q (record { rows = rw e (G .rows); count = rw e (G .count) })
+        record { rows = rw e (G .rows); len = G .len; few = omega arith }
 
-  pub done-late : (m : ℕ) {r : Reclaimed} → k ≤ m → m ≤ k → r ≡ record { first = s .first; used = s .used; freed = k } → Done n cap hs m ks xs zs ms cs r h
-  done-late m l o q =
+  pub done-late : (m : ℕ) → k ≤ m → m ≤ k → Done n cap hs m r at h (t .at)
+  done-late m l o =
+      let d = G .count in
       let e : m ≡ k = omega arith in
-      let d : reclaim cap hs m h ≡ reclaim cap hs k h = ap (λ (i : ℕ). reclaim cap hs i h) e in
-      rw q (record { rows = rw d (G .rows); count = rw d (G .count) })
+      record { rows = rw e (G .rows); len = G .len; few = omega arith }

@@ -3,19 +3,19 @@ use Prim.Native.Nat.{ℕ, _+_, _≤_, _<_}
 use mathlib.Core.Path.{_≡_}
 use mathlib.Core.Bool.{cond}
 use mathlib.Core.Option.{Option}
-use mathlib.Core.List.{List}
+use mathlib.Core.List.{List, _++_}
 use lib.Dec.{ltb}
 use lib.ListN.{length, take, getD}
-use lib.IntN.{ℤ}
-use Rattle.rules.specs.declared.Used.{Used}
+use Rattle.rules.specs.declared.State.{State}
 use Rattle.rules.specs.declared.Field.{Field}
 use Rattle.rules.specs.declared.Field.the-variants.{Nothing, Figure, Cell, Free}
 use Rattle.rules.specs.Table.{Ascending}
-use Rattle.rules.specs.Settle.{Heap, field, freeCell, reclaim}
+use Rattle.rules.specs.Rules.{Tables, leaveZct, replay}
+use Rattle.rules.specs.Settle.{Heap, drops, field, freeCell, reclaim}
+use Rattle.rules.specs.Rows.{HeapRows}
 use Rattle.rules.specs.Whole.{Rows}
 use Rattle.cells.specs.Marks.{Marks}
 use Rattle.reclaim.specs.declared.Turn.{Turn}
-use Rattle.reclaim.specs.declared.Reclaimed.{Reclaimed}
 
 -- the smaller of low and the cell that a field names
 abbrev pub lowTo : ℕ → Field → ℕ
@@ -24,15 +24,25 @@ lowTo low (Figure x) = low
 lowTo low (Cell b) = cond (ltb b low) b low
 lowTo low (Free b) = low
 
--- the rows are some heap
-pub record Heaped (n cap : ℕ) (ks : List ℕ) (xs : List ℤ) (zs ms cs : List ℕ) (free : ℕ) (u : Used) : Type 0 where
+-- the tables without a in ZCT, and with what its fields x and y name let go
+abbrev pub released : ℕ → ℕ → Field → Field → Tables → Tables
+released cap a x y t = replay cap (drops x ++ drops y) (leaveZct a t)
+
+-- the rows are some heap, and not too many cells were freed to count one more
+pub record Heaped (cap : ℕ) (r : HeapRows) (at : State) : Type 0 where
   pub heap : Heap
-  pub rows : Rows n cap ks xs zs ms cs free u heap
+  pub rows : Rows (length (r .tables .zct)) cap r at heap
+  pub few : at .freed ≤ 2000000
 
 -- the rows are h with a freed, and low is a or the smaller of the cells that its fields named
-pub record Freed (n cap : ℕ) (ks : List ℕ) (xs : List ℤ) (zs ms cs : List ℕ) (r : Turn) (a : ℕ) (h : Heap) : Type 0 where
-  pub rows : Rows n cap ks xs zs ms cs (r .first) (r .used) (freeCell cap a h)
-  pub low : r .low ≡ lowTo (lowTo a (field (h .shape .fields) a 0)) (field (h .shape .fields) a 1)
+pub record Freed (n cap : ℕ) (a : ℕ) (r : HeapRows) (at : State) (h : Heap) (t : Turn) : Type 0 where
+  pub rows : Rows n cap r (t .at) (freeCell cap a h)
+  pub len : t .at .len ≡ at .len
+  pub low : t .low ≡ lowTo (lowTo a (field (h .shape .fields) a 0)) (field (h .shape .fields) a 1)
+
+-- rows that are a heap are that heap with a freed
+abbrev pub Frees : ℕ → ℕ → HeapRows → State → HeapRows → Turn → Type 0
+Frees cap a r at r′ t = (n : ℕ) (h : Heap) → Rows n cap r at h → Freed n cap a r′ at h t
 
 -- ZCT's used part, with its addresses in the work row, and with a mark for each below low
 pub record Scan (zs : List ℕ) (used : ℕ) (work : List ℕ) (low : ℕ) : Type 0 where
@@ -47,14 +57,20 @@ pub record Unheld (zs : List ℕ) (used : ℕ) (work : List ℕ) (r : ℕ) : Typ
   pub marked : (i : ℕ) → i < r → getD work (getD zs i 0) 0 ≡ 1
   pub bare : r < used → getD work (getD zs r 0) 0 ≡ 1 → ⊥
 
--- the rows are some heap, and the work row marks some holds
-pub record Reclaimable (n cap : ℕ) (ks : List ℕ) (xs : List ℤ) (zs ms cs work : List ℕ) (free : ℕ) (u : Used) : Type 0 where
+-- the rows are some heap, the work row marks some holds, and not too many cells were freed to count so many more
+pub record Reclaimable (cap : ℕ) (r : HeapRows) (work : List ℕ) (at : State) (turns : ℕ) : Type 0 where
   pub heap : Heap
   pub holds : List (Option ℕ)
-  pub rows : Rows n cap ks xs zs ms cs free u heap
-  pub marks : Marks n work holds
+  pub rows : Rows (length (r .tables .zct)) cap r at heap
+  pub marks : Marks (length (r .tables .zct)) work holds
+  pub few : at .freed + turns ≤ 2000000
 
--- the rows are h after so many turns of reclaiming, and so many cells were freed
-pub record Done (n cap : ℕ) (hs : List (Option ℕ)) (most : ℕ) (ks : List ℕ) (xs : List ℤ) (zs ms cs : List ℕ) (r : Reclaimed) (h : Heap) : Type 0 where
-  pub rows : Rows n cap ks xs zs ms cs (r .first) (r .used) (reclaim cap hs most h)
-  pub count : reclaim cap hs most h .freed ≡ h .freed + r .freed
+-- the rows are h after so many turns of reclaiming
+pub record Done (n cap : ℕ) (hs : List (Option ℕ)) (turns : ℕ) (r : HeapRows) (at : State) (h : Heap) (o : State) : Type 0 where
+  pub rows : Rows n cap r o (reclaim cap hs turns h)
+  pub len : o .len ≡ at .len
+  pub few : o .freed ≤ at .freed + turns
+
+-- rows that are a heap are that heap after so many turns of reclaiming, where the work row's marks are what is held
+abbrev pub Reclaims : ℕ → ℕ → List ℕ → HeapRows → State → HeapRows → State → Type 0
+Reclaims cap turns work r at r′ o = (n : ℕ) (hs : List (Option ℕ)) (h : Heap) → Rows n cap r at h → Marks n work hs → Done n cap hs turns r′ at h o

@@ -1,18 +1,17 @@
 // Reclaiming: while some ZCT cell is held by no variable, the one with the smallest address is freed.
 ghost use mathlib.Core.Path.{_≡_};
-ghost use mathlib.Core.List.{List, _++_};
-ghost use mathlib.Core.Option.{Option};
-ghost use Prim.Native.Nat.{ℕ, _<_};
+ghost use Prim.Native.Nat.{_<_};
 ghost use lib.ListN.{length, getD};
-ghost use Rattle.rules.specs.Rules.{Tables, leaveZct, replay};
-ghost use Rattle.rules.specs.Settle.{Heap, drops};
-ghost use Rattle.rules.specs.Whole.{Inside, Ready, Rows};
-ghost use Rattle.tables.specs.Row.{Tabled};
-ghost use Rattle.cells.specs.Marks.{Marks};
-ghost use Rattle.reclaim.specs.Reclaiming.{lowTo, Heaped, Freed, Scan, Unheld, Reclaimable, Done};
+ghost use Rattle.rules.specs.Rules.{replay};
+ghost use Rattle.rules.specs.Settle.{drops};
+ghost use Rattle.rules.specs.Whole.{Inside};
+ghost use Rattle.rules.specs.Lending.{tablesNow, tableEntries, tableExits, heapNow, heapEntries, heapExits};
+ghost use Rattle.tables.specs.Row.{Tabled, TablesBy};
+ghost use Rattle.reclaim.specs.Reclaiming.{lowTo, released, Heaped, Frees, Scan, Unheld, Reclaimable, Reclaims};
 use cells::field_at;
 use cells::free_cell;
 use rules::Field;
+use rules::State;
 use rules::Used;
 use tables::cut_at;
 use tables::destroy;
@@ -43,9 +42,9 @@ fn let_go(
     cap: u32,
     f: Field,
 ) -> Used
-    requires { ⌜ Tabled (length (now zct)) cap (now zct) (now mrt) (now counts) used ⌝ }
+    requires { ⌜ Tabled cap (tablesNow zct mrt counts) used ⌝ }
     requires { ⌜ Inside (length (now zct)) f ⌝ }
-    ensures { λ r. ⌜ ((n : ℕ) (t : Tables) → Ready n cap (now (zct .entry)) (now (mrt .entry)) (now (counts .entry)) used t → Ready n cap (now (zct .exit)) (now (mrt .exit)) (now (counts .exit)) r (replay cap (drops f) t)) ⌝ }
+    ensures { λ r. ⌜ TablesBy cap (replay cap (drops f)) (tableEntries zct mrt counts) used (tableExits zct mrt counts) r ⌝ }
 {
     match f {
         Field::Nothing => used,
@@ -66,10 +65,10 @@ fn release(
     x: Field,
     y: Field,
 ) -> Used
-    requires { ⌜ Tabled (length (now zct)) cap (now zct) (now mrt) (now counts) used ⌝ }
+    requires { ⌜ Tabled cap (tablesNow zct mrt counts) used ⌝ }
     requires { ⌜ p < used .zct ⌝ }
     requires { ⌜ Inside (length (now zct)) x × Inside (length (now zct)) y ⌝ }
-    ensures { λ r. ⌜ ((n : ℕ) (t : Tables) → Ready n cap (now (zct .entry)) (now (mrt .entry)) (now (counts .entry)) used t → Ready n cap (now (zct .exit)) (now (mrt .exit)) (now (counts .exit)) r (replay cap (drops x ++ drops y) (leaveZct (getD (now (zct .entry)) p 0) t))) ⌝ }
+    ensures { λ r. ⌜ TablesBy cap (released cap (getD (now (zct .entry)) p 0) x y) (tableEntries zct mrt counts) used (tableExits zct mrt counts) r ⌝ }
 {
     let zused = used.zct;
     let mused = used.mrt;
@@ -79,10 +78,9 @@ fn release(
     let_go(zct, mrt, counts, w, cap, y)
 }
 
-// Where the reclaiming stands: the first free address, the used lengths, and an address below which ZCT has only cells that are held.
+// Where the reclaiming stands, and an address below which ZCT has only cells that are held.
 pub struct Turn {
-    pub first: usize,
-    pub used: Used,
+    pub at: State,
     pub low: u32,
 }
 
@@ -93,13 +91,13 @@ fn free_one(
     zct: &mut [u32],
     mrt: &mut [u32],
     counts: &mut [u32],
-    at: Turn,
+    at: State,
     cap: u32,
     p: usize,
 ) -> Turn
-    requires { ⌜ Heaped (length (now zct)) cap (now kinds) (now values) (now zct) (now mrt) (now counts) (at .first) (at .used) ⌝ }
+    requires { ⌜ Heaped cap (heapNow kinds values zct mrt counts) at ⌝ }
     requires { ⌜ p < at .used .zct ⌝ }
-    ensures { λ r. ⌜ ((n : ℕ) (h : Heap) → Rows n cap (now (kinds .entry)) (now (values .entry)) (now (zct .entry)) (now (mrt .entry)) (now (counts .entry)) (at .first) (at .used) h → Freed n cap (now (kinds .exit)) (now (values .exit)) (now (zct .exit)) (now (mrt .exit)) (now (counts .exit)) r (getD (now (zct .entry)) p 0) h) ⌝ }
+    ensures { λ r. ⌜ Frees cap (getD (now (zct .entry)) p 0) (heapEntries kinds values zct mrt counts) at (heapExits kinds values zct mrt counts) r ⌝ }
 {
     let w = zct[p];
     let a = w as usize;
@@ -111,11 +109,13 @@ fn free_one(
     free_cell(kinds, values, a, first);
     let l = lower_to(w, x);
     let low = lower_to(l, y);
-    Turn {
+    let next = State {
+        len: at.len,
         first: a,
         used: u,
-        low: low,
-    }
+        freed: at.freed + 1,
+    };
+    Turn { at: next, low: low }
 }
 
 // The place of the first entry of ZCT with no mark, from low's place on: the used length where there is none.
@@ -134,26 +134,6 @@ fn unheld(zct: &[u32], used: usize, work: &[u32], low: u32) -> usize
     p
 }
 
-// What a reclaiming leaves: the first free address, the used lengths, and the number of cells freed.
-pub struct Reclaimed {
-    pub first: usize,
-    pub used: Used,
-    pub freed: usize,
-}
-
-// Where the reclaiming stands, after so many cells were freed, as what it leaves.
-fn left_at(at: Turn, freed: usize) -> Reclaimed
-    ensures { λ r. ⌜ r ≡ record { first = at .first; used = at .used; freed = freed } ⌝ }
-{
-    let first = at.first;
-    let used = at.used;
-    Reclaimed {
-        first: first,
-        used: used,
-        freed: freed,
-    }
-}
-
 // While some ZCT cell has no mark, frees the one with the smallest address: at most `most` of them.
 pub fn reclaim(
     kinds: &mut [u8],
@@ -162,30 +142,26 @@ pub fn reclaim(
     mrt: &mut [u32],
     counts: &mut [u32],
     work: &[u32],
-    first: usize,
-    used: Used,
+    at: State,
     cap: u32,
     most: usize,
-) -> Reclaimed
-    requires { ⌜ Reclaimable (length (now zct)) cap (now kinds) (now values) (now zct) (now mrt) (now counts) (now work) first used ⌝ }
-    ensures { λ r. ⌜ ((n : ℕ) (hs : List (Option ℕ)) (h : Heap) → Rows n cap (now (kinds .entry)) (now (values .entry)) (now (zct .entry)) (now (mrt .entry)) (now (counts .entry)) first used h → Marks n (now (work .entry)) hs → Done n cap hs most (now (kinds .exit)) (now (values .exit)) (now (zct .exit)) (now (mrt .exit)) (now (counts .exit)) r h) ⌝ }
+) -> State
+    requires { ⌜ Reclaimable cap (heapNow kinds values zct mrt counts) (now work) at most ⌝ }
+    ensures { λ r. ⌜ Reclaims cap most (now (work .entry)) (heapEntries kinds values zct mrt counts) at (heapExits kinds values zct mrt counts) r ⌝ }
 {
-    let mut at = Turn {
-        first: first,
-        used: used,
-        low: 0,
-    };
+    let mut turn = Turn { at: at, low: 0 };
     let mut k = 0;
     while k < most {
-        let u = at.used;
-        let zused = u.zct;
-        let low = at.low;
-        let p = unheld(zct, zused, work, low);
+        let now = turn.at;
+        let used = now.used;
+        let zused = used.zct;
+        let p = unheld(zct, zused, work, turn.low);
         if zused <= p {
-            return left_at(at, k);
+            return now;
         }
-        at = free_one(kinds, values, zct, mrt, counts, at, cap, p);
+        turn = free_one(kinds, values, zct, mrt, counts, now, cap, p);
         k += 1;
     }
-    left_at(at, k)
+    let last = turn.at;
+    last
 }

@@ -7,7 +7,7 @@ use Rattle.rules.specs.Step as P
 use Rattle.rules.specs.Against.{LooksRight}
 
 pub look-right : LooksRight
-unfolding C.callOf C.callsOf C.callsIn U.enterZct U.leaveZct U.enterMrt U.leaveMrt U.onCreate U.onDestroy U.apply U.replay S.place S.field S.store S.drops S.freeCell S.reclaim S.replayed S.settledBy S.settled C.var C.at C.isHeld C.isCell C.isFigure C.want C.orElse C.check C.makes C.logs C.write C.hold C.toCell C.target C.act C.figureOf C.sameCell C.value P.settledIf P.full P.noneFree P.after P.takeCell P.doNew P.doSettle P.doCall P.room P.run P.step P.calls P.batch P.freeFrom P.fresh
+unfolding C.callOf C.callsOf C.callsIn U.enterZct U.leaveZct U.enterMrt U.leaveMrt U.onCreate U.onDestroy U.apply U.replay S.place S.field S.store S.freeCell S.reclaim S.replayed S.settledBy S.settled C.var C.at C.refuses C.logs C.write C.hold C.act C.value P.full P.noneFree P.wants P.settledIf P.takeCell P.doNew P.doDeed P.acted P.run P.step P.calls P.batch P.freeFrom P.fresh
 look-right =
     record {
       held-cells-stay = refl;

@@ -13,8 +13,9 @@ use lib.ListN.{length, getD, drop, length-map, List·getD-map}
 use borrow.Author.Tests.{lt-ltb, eqb-true}
 use Rattle.rules.specs.declared.Field.{Field}
 use Rattle.rules.specs.declared.Field.the-variants.{Nothing, Figure, Cell, Free}
+use Rattle.rules.specs.declared.Deed.the-variants.{Copy, Clear, Link, Put, Blank, Follow, Read, Same}
 use Rattle.rules.specs.declared.Call.{Call}
-use Rattle.rules.specs.declared.Call.the-variants.{New, Copy, Clear, Link, Put, Blank, Follow, Read, Same, Settle}
+use Rattle.rules.specs.declared.Call.the-variants.{New, Do, Settle}
 use Rattle.rules.specs.declared.Sizes.{Sizes}
 use Rattle.rules.specs.Field.{kindOf, valueOf}
 use Rattle.rules.specs.Settle.{Heap}
@@ -120,7 +121,7 @@ and-then (some c) (some d) none (some ds) e f = absurd f
 and-then (some c) (some d) (some cs) none e f = absurd f
 and-then (some c) (some d) (some cs) (some ds) e f = (e, f)
 
-put-alike : (q : Bool) (v f : ℕ) (x y : ℤ) → SameCall (given q (Put v f x)) (given q (Put v f y))
+put-alike : (q : Bool) (v f : ℕ) (x y : ℤ) → SameCall (given q (Do (Put v f x))) (given q (Do (Put v f y)))
 put-alike true v f x y = refl
 put-alike false v f x y = tt
 
@@ -179,14 +180,14 @@ here-reads o false f g c e r = g c e r
 by-reads : (m k : ℕ) (a b x : ℤ) → Reads (k ≡ 8) (callBy m k a b x)
 by-reads m k a b x =
     else-reads (eqb k 1) (given-reads (isBelow m a && isNought b && isNought x) (New (number a)) refl)
-    (else-reads (eqb k 2) (given-reads (isBelow m a && isBelow m b && isNought x) (Copy (number a) (number b)) refl)
-    (else-reads (eqb k 3) (given-reads (isBelow m a && isNought b && isNought x) (Clear (number a)) refl)
-    (else-reads (eqb k 4) (given-reads (isBelow m a && isBelow 2 b && isBelow m x) (Link (number a) (number b) (number x)) refl)
-    (else-reads (eqb k 5) (given-reads (isBelow m a && isBelow 2 b && isSigned32 x) (Put (number a) (number b) x) refl)
-    (else-reads (eqb k 6) (given-reads (isBelow m a && isBelow 2 b && isNought x) (Blank (number a) (number b)) refl)
-    (else-reads (eqb k 7) (given-reads (isBelow m a && isBelow 2 b && isBelow m x) (Follow (number a) (number b) (number x)) refl)
-    (here-reads (given (isBelow m a && isBelow 2 b && isNought x) (Read (number a) (number b))) (eqb k 8) (eqb-true k 8)
-    (else-reads (eqb k 9) (given-reads (isBelow m a && isBelow m b && isNought x) (Same (number a) (number b)) refl)
+    (else-reads (eqb k 2) (given-reads (isBelow m a && isBelow m b && isNought x) (Do (Copy (number a) (number b))) refl)
+    (else-reads (eqb k 3) (given-reads (isBelow m a && isNought b && isNought x) (Do (Clear (number a))) refl)
+    (else-reads (eqb k 4) (given-reads (isBelow m a && isBelow 2 b && isBelow m x) (Do (Link (number a) (number b) (number x))) refl)
+    (else-reads (eqb k 5) (given-reads (isBelow m a && isBelow 2 b && isSigned32 x) (Do (Put (number a) (number b) x)) refl)
+    (else-reads (eqb k 6) (given-reads (isBelow m a && isBelow 2 b && isNought x) (Do (Blank (number a) (number b))) refl)
+    (else-reads (eqb k 7) (given-reads (isBelow m a && isBelow 2 b && isBelow m x) (Do (Follow (number a) (number b) (number x))) refl)
+    (here-reads (given (isBelow m a && isBelow 2 b && isNought x) (Do (Read (number a) (number b)))) (eqb k 8) (eqb-true k 8)
+    (else-reads (eqb k 9) (given-reads (isBelow m a && isBelow m b && isNought x) (Do (Same (number a) (number b))) refl)
     (else-reads (eqb k 10) (given-reads (isNought a && isNought b && isNought x) Settle refl) none-reads)))))))))
 
 read-op : (m : ℕ) (op a b x : ℤ) → Reads (op ≡ pos 8) (callOf m op a b x)

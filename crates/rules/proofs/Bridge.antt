@@ -22,7 +22,7 @@ use Rattle.rules.specs.Head.{Limits}
 use Rattle.rules.specs.Rows.{rowsOf, headOf}
 use Rattle.rules.specs.Whole.{Kept}
 use Rattle.rules.specs.Sound.{Live, Mark, Word, Words, Variables, TableRow, TablesSound, NotIn, ZctHeld, kind, word, mark, pointers, heldAmong, times, FreeList, Sound}
-use Rattle.rules.proofs.Invariant.{refs, live, view, countOf, okOf, Counted, Good, Frees, Fitting, Inv, Done, Ended}
+use Rattle.rules.specs.Invariant.{refs, live, view, countOf, okOf, Counted, Good, Frees, Fitting, Inv, Done, Ended}
 use Rattle.rules.proofs.Reclaim.{pick-some, pick-none}
 use Rattle.rules.proofs.Positions.{getD-any, has-at, at-has, not-has, all-at, at-all, up-at, at-up, count-at, at-count, not-counted, pad-at, pad-zero, refs-pointers, holds-held, holds-at, at-holds, kind-at, kind-nothing, inside, live-at, at-live, dead-at, chain-path, path-chain, off-path, on-chain, word-of, of-word, half, no-refs, some-refs}
 

@@ -1,4 +1,4 @@
--- Each call keeps the counts exact: of the tables as they will be once the log is replayed; and what it writes keeps the rest. Assumes nothing.
+-- Each deed keeps the counts exact: of the tables as they will be once the log is replayed; and what it writes keeps the rest. Assumes nothing.
 use Prim.Native.Nat.{ℕ, zero, suc, _<_, _≤_}
 use mathlib.Core.Path.{_≡_, refl, sym, ap, _∙_, subst}
 use mathlib.Core.Logic.{_⊎_, inl, inr}
@@ -13,37 +13,19 @@ use lib.ListN.{length, getD, set, length-set, length-append}
 use borrow.Author.Tests.{eqb-true, eq-eqb, ltb-true}
 use Rattle.rules.specs.declared.Field.{Field}
 use Rattle.rules.specs.declared.Field.the-variants.{Nothing, Figure, Cell, Free}
+use Rattle.rules.specs.declared.Deed.{Deed}
+use Rattle.rules.specs.declared.Deed.the-variants.{Copy, Clear, Link, Put, Blank, Follow, Read, Same}
 use Rattle.rules.specs.declared.Call.{Call}
-use Rattle.rules.specs.declared.Call.the-variants.{New, Copy, Clear, Link, Put, Blank, Follow, Read, Same, Settle}
+use Rattle.rules.specs.declared.Call.the-variants.{New, Do, Settle}
 use Rattle.rules.specs.declared.Sizes.{Sizes}
-use Rattle.rules.specs.Field.{Signed32}
 use Rattle.rules.specs.Rules.{Tables, Transaction, replay}
 use Rattle.rules.specs.Settle.{Shape, drops, holds, field, store}
-use Rattle.rules.specs.Call.{var, at, isHeld, isCell, want, orElse, check, makes, logs, write, hold, toCell, target, act, isBelow, isNought, isSigned32, given, number, callOf, andThen, callsOf, callsIn}
+use Rattle.rules.specs.Call.{var, at, isHeld, isCell, want, orElse, check, makes, logs, write, hold, toCell, target, act, isBelow, isNought, isSigned32, given, number, callOf, andThen, callsOf, callsIn, InRange, Fits, AllFit, refuses}
 use Rattle.rules.specs.Head.{Limits}
-use Rattle.rules.proofs.Invariant.{hit, refs, used, live, Counted, Good, Fitting, Small}
+use Rattle.rules.specs.Invariant.{hit, refs, used, live, Counted, Good, Fitting, Small}
 use Rattle.rules.proofs.Exact.{gains, drop-counted, gain-counted}
 use Rattle.rules.proofs.Sorted.{small-append, replay-append}
 use Rattle.rules.proofs.Cells.{live-in, live-below, place-in, place-in-1, live-store-0, live-store-1, refs-store, length-store, cell-live, drops-small, lives, lives-store}
-
--- ---- what the code and the limits promise of a call
-
--- variables below m, fields below 2, figures of 32 bits
-abbrev pub Fits : Sizes → Call → Type 0
-Fits s (New v) = v < s .m
-Fits s (Copy v w) = (v < s .m) × (w < s .m)
-Fits s (Clear v) = v < s .m
-Fits s (Link v f w) = (f < 2) × ((v < s .m) × (w < s .m))
-Fits s (Put v f x) = (f < 2) × ((v < s .m) × Signed32 x)
-Fits s (Blank v f) = (f < 2) × (v < s .m)
-Fits s (Follow v f w) = (f < 2) × ((v < s .m) × (w < s .m))
-Fits s (Read v f) = (f < 2) × (v < s .m)
-Fits s (Same v w) = (v < s .m) × (w < s .m)
-Fits s Settle = Unit {0}
-
-abbrev pub AllFit : Sizes → List Call → Type 0
-AllFit s [] = Unit {0}
-AllFit s (c ∷ cs) = (Fits s c) × (AllFit s cs)
 
 -- ---- variables
 
@@ -77,47 +59,39 @@ holds-var (some b ∷ vs) (suc v) a e = rw (holds-var vs v a e) (or-true (eqb a 
 -- ---- what a check that finds nothing wrong says
 
 pub held-11 : (o : Option ℕ) → want (isHeld o) 11 ≡ 0 → (a : ℕ) × (o ≡ some a)
-unfolding want isHeld
 held-11 none e = absurd (omega arith)
 held-11 (some a) e = (a, refl)
 
 pub two-11 : (p q : Bool) → want (p && q) 11 ≡ 0 → (want p 11 ≡ 0) × (want q 11 ≡ 0)
-unfolding want
 two-11 true q e = (refl, e)
 two-11 false q e = absurd (omega arith)
 
 pub then-11 : (j k : ℕ) → orElse j k ≡ 0 → j ≡ 0
-unfolding orElse
 then-11 zero k e = refl
 then-11 (suc j) k e = e
 
 pub toCell-used : (o : Option ℕ) → used (toCell o) ≡ true
-unfolding toCell
 toCell-used none = refl
 toCell-used (some a) = refl
 
 toCell-fitting : (o : Option ℕ) → Fitting (toCell o)
-unfolding toCell
 toCell-fitting none = tt
 toCell-fitting (some a) = tt
 
--- ---- how many entries a call logs
+-- ---- how many entries a deed logs
 
 drops-long : (x : Field) → length (drops x) ≤ 1
-unfolding drops
 drops-long Nothing = omega arith
 drops-long (Figure x) = omega arith
 drops-long (Cell a) = omega arith
 drops-long (Free a) = omega arith
 
 makes-long : (o : Option ℕ) → length (makes o) ≤ 1
-unfolding makes
 makes-long none = omega arith
 makes-long (some a) = omega arith
 
-pub logs-long : (c : Call) (sh : Shape) → length (logs c sh) ≤ 2
+pub logs-long : (d : Deed) (sh : Shape) → length (logs d sh) ≤ 2
 unfolding logs
-logs-long (New v) sh = omega arith
 logs-long (Copy v w) sh = omega arith
 logs-long (Clear v) sh = omega arith
 logs-long (Link v f w) sh = rw length-append (omega (arith, drops-long (at sh v f), makes-long (var sh w)))
@@ -126,11 +100,9 @@ logs-long (Blank v f) sh = omega (arith, drops-long (at sh v f))
 logs-long (Follow v f w) sh = omega arith
 logs-long (Read v f) sh = omega arith
 logs-long (Same v w) sh = omega arith
-logs-long Settle sh = omega arith
 
-pub act-variables : (c : Call) (sh : Shape) → length (act c sh .variables) ≡ length (sh .variables)
+pub act-variables : (d : Deed) (sh : Shape) → length (act d sh .variables) ≡ length (sh .variables)
 unfolding act hold write
-act-variables (New v) sh = refl
 act-variables (Copy v w) sh = length-set (sh .variables) v (var sh w)
 act-variables (Clear v) sh = length-set (sh .variables) v none
 act-variables (Link v f w) sh = refl
@@ -139,7 +111,6 @@ act-variables (Blank v f) sh = refl
 act-variables (Follow v f w) sh = length-set (sh .variables) w (target (at sh v f))
 act-variables (Read v f) sh = refl
 act-variables (Same v w) sh = refl
-act-variables Settle sh = refl
 
 -- ---- a shape that agrees with tables
 
@@ -184,7 +155,7 @@ module _ (s : Sizes) (ok : Limits s) (sh : Shape) (t : Tables) (g : Good (s .n) 
           let e1 = refs-store (sh .fields) a f b x (place-in (s .n) (sh .fields) (g .len) a f h l) in
           gain-counted (s .cap) (ok .cap-least) x {r = refs (store (sh .fields) a f Nothing) b} (omega arith) (p b) (drop-counted (s .cap) (ok .cap-least) (field (sh .fields) a f) (omega arith) (g .counted b))
 
-  -- ---- the calls
+  -- ---- the deeds
 
   write-good : (v f : ℕ) (x : Field) → f < 2 → want (isHeld (var sh v)) 11 ≡ 0 → used x ≡ true → ((b : ℕ) → hit x b ≡ 1 → live (sh .fields) b ≡ true) → Stays (write sh v f x) (drops (at sh v f) ++ gains x)
   unfolding write at
@@ -192,7 +163,6 @@ module _ (s : Sizes) (ok : Limits s) (sh : Shape) (t : Tables) (g : Good (s .n) 
 
   link-good : (v f : ℕ) (o : Option ℕ) → f < 2 → want (isHeld (var sh v)) 11 ≡ 0 → want (isHeld o) 11 ≡ 0 → ((a : ℕ) → o ≡ some a → live (sh .fields) a ≡ true)
       → Stays (write sh v f (toCell o)) (drops (at sh v f) ++ makes o)
-  unfolding toCell makes want isHeld
   link-good v f none h c d p = absurd (omega arith)
   link-good v f (some b) h c d p = write-good v f (Cell b) h c refl (λ x e. go x (eqb x b) refl e)
     where
@@ -206,7 +176,7 @@ module _ (s : Sizes) (ok : Limits s) (sh : Shape) (t : Tables) (g : Good (s .n) 
       (write-good v f x h c u (λ b d. absurd (let k = z b in omega arith)))
 
   target-live : (v f : ℕ) → f < 2 → want (isHeld (var sh v)) 11 ≡ 0 → (a : ℕ) → target (at sh v f) ≡ some a → live (sh .fields) a ≡ true
-  unfolding at target
+  unfolding at
   target-live v f h c a e =
       let w = held-11 (var sh v) c in
       cell-live (s .n) (s .cap) (sh .fields) (sh .variables) t g (w .0) f a h (var-live v (w .0) (w .1)) (go (field (sh .fields) (w .0) f) (rw (w .1, at) at e))
@@ -217,49 +187,45 @@ module _ (s : Sizes) (ok : Limits s) (sh : Shape) (t : Tables) (g : Good (s .n) 
       go (Cell b) e = cc
       go (Free b) e = absurd (let z : _≡_ {A = ℕ} 0 1 = cc in omega arith)
 
-  pub call-good : (c : Call) → Fits s c → check c sh ≡ 0 → Stays (act c sh) (logs c sh)
-  unfolding act logs check replay
-  call-good (New v) f e = g
-  call-good (Copy v w) f e = hold-good v (var sh w) (λ a d. var-live w a d)
-  call-good (Clear v) f e = hold-good v none (λ a d. absurd (let z : _≡_ {A = ℕ} 0 1 = cc in omega arith))
-  call-good (Link v f w) h e =
+  pub deed-good : (d : Deed) → InRange (s .m) d → refuses d sh ≡ 0 → Stays (act d sh) (logs d sh)
+  unfolding act logs refuses replay
+  deed-good (Copy v w) f e = hold-good v (var sh w) (λ a d. var-live w a d)
+  deed-good (Clear v) f e = hold-good v none (λ a d. absurd (let z : _≡_ {A = ℕ} 0 1 = cc in omega arith))
+  deed-good (Link v f w) h e =
       let k = two-11 (isHeld (var sh v)) (isHeld (var sh w)) e in
-      link-good v f (var sh w) (h .0) (k .0) (k .1) (λ a d. var-live w a d)
-  call-good (Put v f x) h e = plain-good v f (Figure x) (h .0) e refl refl (λ b. refl)
-  call-good (Blank v f) h e = plain-good v f Nothing (h .0) e refl refl (λ b. refl)
-  call-good (Follow v f w) h e = hold-good w (target (at sh v f)) (target-live v f (h .0) (then-11 (want (isHeld (var sh v)) 11) (want (isCell (at sh v f)) 12) e))
-  call-good (Read v f) h e = g
-  call-good (Same v w) f e = g
-  call-good Settle f e = g
+      link-good v f (var sh w) (h .1) (k .0) (k .1) (λ a d. var-live w a d)
+  deed-good (Put v f x) h e = plain-good v f (Figure x) (h .1) e refl refl (λ b. refl)
+  deed-good (Blank v f) h e = plain-good v f Nothing (h .1) e refl refl (λ b. refl)
+  deed-good (Follow v f w) h e = hold-good w (target (at sh v f)) (target-live v f (h .1) (then-11 (want (isHeld (var sh v)) 11) (want (isCell (at sh v f)) 12) e))
+  deed-good (Read v f) h e = g
+  deed-good (Same v w) f e = g
 
-  -- what a write to a cell in use keeps, a call keeps
+  -- what a write to a cell in use keeps, a deed keeps
   module _ (P : List Field → Type 0) (p : P (sh .fields))
       (by-store : (a f : ℕ) (x : Field) → f < 2 → live (sh .fields) a ≡ true → used x ≡ true → Fitting x → P (store (sh .fields) a f x)) where
     write-keeps : (v f : ℕ) (x : Field) → f < 2 → want (isHeld (var sh v)) 11 ≡ 0 → used x ≡ true → Fitting x → P (write sh v f x .fields)
     unfolding write
     write-keeps v f x h c u i = let w = held-11 (var sh v) c in rw (w .1, write) (by-store (w .0) f x h (var-live v (w .0) (w .1)) u i)
 
-    pub act-keeps : (c : Call) → Fits s c → check c sh ≡ 0 → P (act c sh .fields)
-    unfolding act check hold
-    act-keeps (New v) f e = p
+    pub act-keeps : (d : Deed) → InRange (s .m) d → refuses d sh ≡ 0 → P (act d sh .fields)
+    unfolding act refuses hold
     act-keeps (Copy v w) f e = p
     act-keeps (Clear v) f e = p
-    act-keeps (Link v f w) h e = write-keeps v f (toCell (var sh w)) (h .0) (two-11 (isHeld (var sh v)) (isHeld (var sh w)) e .0) (toCell-used (var sh w)) (toCell-fitting (var sh w))
-    act-keeps (Put v f x) h e = write-keeps v f (Figure x) (h .0) e refl (h .1 .1)
-    act-keeps (Blank v f) h e = write-keeps v f Nothing (h .0) e refl tt
+    act-keeps (Link v f w) h e = write-keeps v f (toCell (var sh w)) (h .1) (two-11 (isHeld (var sh v)) (isHeld (var sh w)) e .0) (toCell-used (var sh w)) (toCell-fitting (var sh w))
+    act-keeps (Put v f x) h e = write-keeps v f (Figure x) (h .1) e refl (h .2)
+    act-keeps (Blank v f) h e = write-keeps v f Nothing (h .1) e refl tt
     act-keeps (Follow v f w) h e = p
     act-keeps (Read v f) h e = p
     act-keeps (Same v w) f e = p
-    act-keeps Settle f e = p
 
-  pub act-lives : (c : Call) → Fits s c → check c sh ≡ 0 → lives (act c sh .fields) ≡ lives (sh .fields)
+  pub act-lives : (d : Deed) → InRange (s .m) d → refuses d sh ≡ 0 → lives (act d sh .fields) ≡ lives (sh .fields)
   act-lives =
       act-keeps (λ fs. lives fs ≡ lives (sh .fields)) refl
       (λ a f x h l u i. lives-store (sh .fields) a f x h u l (place-in-1 (s .n) a (sh .fields) (g .len) l))
 
-  -- what a call logs names cells below n
+  -- what a deed logs names cells below n
   at-small : (v f : ℕ) → f < 2 → Small (s .n) (drops (at sh v f))
-  unfolding at drops
+  unfolding at
   at-small v f h = go (var sh v) refl
     where
       go : (o : Option ℕ) → var sh v ≡ o → Small (s .n) (drops (at sh v f))
@@ -267,25 +233,22 @@ module _ (s : Sizes) (ok : Limits s) (sh : Shape) (t : Tables) (g : Good (s .n) 
       go (some a) e = rw (e, at) (drops-small (s .n) (s .cap) (sh .fields) (sh .variables) t g a f h (var-live v a e))
 
   makes-small : (w : ℕ) → Small (s .n) (makes (var sh w))
-  unfolding makes
   makes-small w = go (var sh w) refl
     where
       go : (o : Option ℕ) → var sh w ≡ o → Small (s .n) (makes o)
       go none e = tt
       go (some a) e = (live-below (s .n) (sh .fields) (g .len) a (var-live w a e), tt)
 
-  pub logs-small : (c : Call) → Fits s c → Small (s .n) (logs c sh)
+  pub logs-small : (d : Deed) → InRange (s .m) d → Small (s .n) (logs d sh)
   unfolding logs
-  logs-small (New v) h = tt
   logs-small (Copy v w) h = tt
   logs-small (Clear v) h = tt
-  logs-small (Link v f w) h = small-append (s .n) (drops (at sh v f)) (makes (var sh w)) (at-small v f (h .0)) (makes-small w)
-  logs-small (Put v f x) h = at-small v f (h .0)
-  logs-small (Blank v f) h = at-small v f (h .0)
+  logs-small (Link v f w) h = small-append (s .n) (drops (at sh v f)) (makes (var sh w)) (at-small v f (h .1)) (makes-small w)
+  logs-small (Put v f x) h = at-small v f (h .1)
+  logs-small (Blank v f) h = at-small v f (h .1)
   logs-small (Follow v f w) h = tt
   logs-small (Read v f) h = tt
   logs-small (Same v w) h = tt
-  logs-small Settle h = tt
 
 -- ---- calls that words give
 
@@ -313,43 +276,40 @@ number-below : (m : ℕ) (x : ℤ) → isBelow m x ≡ true → number x < m
 number-below m (pos a) e = ltb-true a m e
 number-below m (negsuc a) e = absurd (false≢true e)
 
-pub call-fits : (s : Sizes) (op a b c : ℤ) (x : Call) → callOf (s .m) op a b c ≡ some x → Fits s x
+pub call-fits : (m : ℕ) (op a b c : ℤ) (x : Call) → callOf m op a b c ≡ some x → Fits m x
 unfolding callOf
-call-fits s op a b c =
+call-fits m op a b c =
     also 1 (isBelow m a) (isNought b) (isNought c) (New (number a)) (λ p q r. var a p)
-    (also 2 (isBelow m a) (isBelow m b) (isNought c) (Copy (number a) (number b)) (λ p q r. (var a p, var b q))
-    (also 3 (isBelow m a) (isNought b) (isNought c) (Clear (number a)) (λ p q r. var a p)
-    (also 4 (isBelow m a) (isBelow 2 b) (isBelow m c) (Link (number a) (number b) (number c)) (λ p q r. (number-below 2 b q, (var a p, var c r)))
-    (also 5 (isBelow m a) (isBelow 2 b) (isSigned32 c) (Put (number a) (number b) c) (λ p q r. (number-below 2 b q, (var a p, ltb-true (mag c) 2147483648 r)))
-    (also 6 (isBelow m a) (isBelow 2 b) (isNought c) (Blank (number a) (number b)) (λ p q r. (number-below 2 b q, var a p))
-    (also 7 (isBelow m a) (isBelow 2 b) (isBelow m c) (Follow (number a) (number b) (number c)) (λ p q r. (number-below 2 b q, (var a p, var c r)))
-    (also 8 (isBelow m a) (isBelow 2 b) (isNought c) (Read (number a) (number b)) (λ p q r. (number-below 2 b q, var a p))
-    (also 9 (isBelow m a) (isBelow m b) (isNought c) (Same (number a) (number b)) (λ p q r. (var a p, var b q))
-    (also 10 (isNought a) (isNought b) (isNought c) Settle (λ p q r. tt) (only-none (Fits s)))))))))))
+    (also 2 (isBelow m a) (isBelow m b) (isNought c) (Do (Copy (number a) (number b))) (λ p q r. (var a p, var b q))
+    (also 3 (isBelow m a) (isNought b) (isNought c) (Do (Clear (number a))) (λ p q r. var a p)
+    (also 4 (isBelow m a) (isBelow 2 b) (isBelow m c) (Do (Link (number a) (number b) (number c))) (λ p q r. (var a p, number-below 2 b q, var c r))
+    (also 5 (isBelow m a) (isBelow 2 b) (isSigned32 c) (Do (Put (number a) (number b) c)) (λ p q r. (var a p, number-below 2 b q, ltb-true (mag c) 2147483648 r))
+    (also 6 (isBelow m a) (isBelow 2 b) (isNought c) (Do (Blank (number a) (number b))) (λ p q r. (var a p, number-below 2 b q))
+    (also 7 (isBelow m a) (isBelow 2 b) (isBelow m c) (Do (Follow (number a) (number b) (number c))) (λ p q r. (var a p, number-below 2 b q, var c r))
+    (also 8 (isBelow m a) (isBelow 2 b) (isNought c) (Do (Read (number a) (number b))) (λ p q r. (var a p, number-below 2 b q))
+    (also 9 (isBelow m a) (isBelow m b) (isNought c) (Do (Same (number a) (number b))) (λ p q r. (var a p, var b q))
+    (also 10 (isNought a) (isNought b) (isNought c) Settle (λ p q r. tt) (only-none (Fits m)))))))))))
   where
-    m : ℕ
-    m = s .m
-
     var : (x : ℤ) → isBelow m x ≡ true → number x < m
     var x e = number-below m x e
 
-    also : (k : ℕ) (p q r : Bool) (x : Call) {o : Option Call} → (p ≡ true → q ≡ true → r ≡ true → Fits s x) → Only (Fits s) o
-        → Only (Fits s) (cond (eqb (number op) k) (given (p && q && r) x) o)
-    also k p q r x {o} f g = only-cond (Fits s) (eqb (number op) k) (given (p && q && r) x) o (only-given (Fits s) (p && q && r) x (λ e. let t = all-three p q r e in f (t .0) (t .1 .0) (t .1 .1))) g
+    also : (k : ℕ) (p q r : Bool) (x : Call) {o : Option Call} → (p ≡ true → q ≡ true → r ≡ true → Fits m x) → Only (Fits m) o
+        → Only (Fits m) (cond (eqb (number op) k) (given (p && q && r) x) o)
+    also k p q r x {o} f g = only-cond (Fits m) (eqb (number op) k) (given (p && q && r) x) o (only-given (Fits m) (p && q && r) x (λ e. let t = all-three p q r e in f (t .0) (t .1 .0) (t .1 .1))) g
 
-then-fit : (s : Sizes) (o : Option Call) (r : Option (List Call)) → Only (Fits s) o → Only (AllFit s) r → Only (AllFit s) (andThen o r)
-then-fit s none r f g = only-none (AllFit s)
-then-fit s (some c) none f g = only-none (AllFit s)
-then-fit s (some c) (some cs) f g = λ x e. let d : c ∷ cs ≡ x = cc in subst (AllFit s) d (f c refl, g cs refl)
+then-fit : (m : ℕ) (o : Option Call) (r : Option (List Call)) → Only (Fits m) o → Only (AllFit m) r → Only (AllFit m) (andThen o r)
+then-fit m none r f g = only-none (AllFit m)
+then-fit m (some c) none f g = only-none (AllFit m)
+then-fit m (some c) (some cs) f g = λ x e. let d : c ∷ cs ≡ x = cc in subst (AllFit m) d (f c refl, g cs refl)
 
-pub calls-fit : (s : Sizes) (ws : List ℤ) (cs : List Call) → callsOf (s .m) ws ≡ some cs → AllFit s cs
+pub calls-fit : (m : ℕ) (ws : List ℤ) (cs : List Call) → callsOf m ws ≡ some cs → AllFit m cs
 unfolding callsOf
-calls-fit s [] = λ x e. let d : [] ≡ x = cc in subst (AllFit s) d tt
-calls-fit s (op ∷ []) = only-none (AllFit s)
-calls-fit s (op ∷ a ∷ []) = only-none (AllFit s)
-calls-fit s (op ∷ a ∷ b ∷ []) = only-none (AllFit s)
-calls-fit s (op ∷ a ∷ b ∷ c ∷ ws) = then-fit s (callOf (s .m) op a b c) (callsOf (s .m) ws) (call-fits s op a b c) (calls-fit s ws)
+calls-fit m [] = λ x e. let d : [] ≡ x = cc in subst (AllFit m) d tt
+calls-fit m (op ∷ []) = only-none (AllFit m)
+calls-fit m (op ∷ a ∷ []) = only-none (AllFit m)
+calls-fit m (op ∷ a ∷ b ∷ []) = only-none (AllFit m)
+calls-fit m (op ∷ a ∷ b ∷ c ∷ ws) = then-fit m (callOf m op a b c) (callsOf m ws) (call-fits m op a b c) (calls-fit m ws)
 
-pub calls-in-fit : (s : Sizes) (ws : List ℤ) (cs : List Call) → callsIn (s .m) ws ≡ some cs → AllFit s cs
+pub calls-in-fit : (m : ℕ) (ws : List ℤ) (cs : List Call) → callsIn m ws ≡ some cs → AllFit m cs
 unfolding callsIn
-calls-in-fit s ws = only-cond (AllFit s) (leb (length ws) 1024) (callsOf (s .m) ws) none (calls-fit s ws) (only-none (AllFit s))
+calls-in-fit m ws = only-cond (AllFit m) (leb (length ws) 1024) (callsOf m ws) none (calls-fit m ws) (only-none (AllFit m))

@@ -14,7 +14,7 @@ use Rattle.rules.specs.declared.Field.{Field}
 use Rattle.rules.specs.declared.Field.the-variants.{Nothing, Figure, Cell, Free}
 use Rattle.rules.specs.Rules.{Tables}
 use Rattle.rules.specs.Settle.{drops, place, field, store}
-use Rattle.rules.proofs.Invariant.{hit, refs, used, live, Good, Fitting, Small}
+use Rattle.rules.specs.Invariant.{hit, refs, used, live, Good, Fitting, Small}
 use Rattle.rules.proofs.Tables.{eqb-self}
 use Rattle.rules.proofs.Exact.{refs-set}
 

@@ -17,17 +17,17 @@ use Rattle.rules.specs.declared.Call.the-variants.{New}
 use Rattle.rules.specs.declared.Sizes.{Sizes}
 use Rattle.rules.specs.Field.{kindOf, variableOf}
 use Rattle.rules.specs.Settle.{Heap, place, field, settled}
-use Rattle.rules.specs.Call.{Answer, callOf, callsOf, callsIn, check, hold}
-use Rattle.rules.specs.Step.{Stepped, settledIf, full, noneFree, takeCell, doNew, run, step, calls, batch}
+use Rattle.rules.specs.Call.{Answer, AllFit, callOf, callsOf, callsIn, hold}
+use Rattle.rules.specs.Step.{Stepped, full, noneFree, wants, settledIf, takeCell, doNew, acted, run, step, calls, unfreed, batch}
 use Rattle.rules.specs.Rows.{Lent, rowsOf, headOf, heapOf}
 use Rattle.rules.specs.Sound.{Sound, Sized, heldAmong, times}
 use Rattle.rules.specs.Refusals.{Batched, answerWords, answered, accepted, batchOf, auditOf, isSound}
 use Rattle.rules.specs.Run.{ours, said}
 use Rattle.rules.specs.Demands.{handedOut, freeCells, newWords, Demand2}
-use Rattle.rules.proofs.Invariant.{Inv}
+use Rattle.rules.specs.Invariant.{Inv}
 use Rattle.rules.proofs.Tests.{sound-true, sound-false}
 use Rattle.rules.proofs.Cells.{lives}
-use Rattle.rules.proofs.Calls.{AllFit, calls-in-fit}
+use Rattle.rules.proofs.Calls.{calls-in-fit}
 use Rattle.rules.proofs.Step.{settled-done, step-inv}
 use Rattle.rules.proofs.Roundtrip.{rows-of-heap}
 use Rattle.rules.proofs.Whole.{twice}
@@ -70,7 +70,7 @@ handed-in (c ∷ cs) (a ∷ as′) rest e = let i = handed-in cs as′ rest (ome
 
 -- ---- an accepted batch
 
-module _ {h : Head} {r : Lent} (Z : Sized h r) (S : Sound h r) (cs : List Call) (F : AllFit (h .sizes) cs) where
+module _ {h : Head} {r : Lent} (Z : Sized h r) (S : Sound h r) (cs : List Call) (F : AllFit (h .sizes .m) cs) where
   s : Sizes
   s = h .sizes
 
@@ -84,7 +84,7 @@ module _ {h : Head} {r : Lent} (Z : Sized h r) (S : Sound h r) (cs : List Call) 
       let a = rw kinds-are at (free-in (entry-ended Z S .inv)) in
       let b = free-in (exit-ended Z S cs F .inv) in
       let c = facts.count-is-freed (h .sizes) (Z .within .limits) cs (heapOf h r) (entry-ended Z S .inv) F in
-      let k : Heap = record { shape = heapOf h r .shape; first = heapOf h r .first; tables = heapOf h r .tables; log = heapOf h r .log; freed = 0 } in
+      let k = unfreed (heapOf h r) in
       let as′ = calls (h .sizes) cs k .answers in
       let d = handed-in cs as′ (drop (2 * length as′) row) (answers-long (h .sizes) cs k) in
       omega arith
@@ -138,7 +138,7 @@ module _ {h : Head} {r : Lent} (Z : Sized h r) (S : Sound h r) (v : ℕ) (k : v 
   module _ (some-free : h .free < h .sizes .n) where
     -- no settle is needed: the log is empty, and a cell is free
     new-taken : step (h .sizes) (New v) (heapOf h r) ≡ record { heap = takeCell v (heapOf h r); answer = record { status = 0; value = pos 0 } }
-    unfolding step check run doNew settledIf full noneFree heapOf
+    unfolding step run acted doNew wants settledIf full noneFree heapOf
     new-taken =
         let l : 1 ≤ h .sizes .l = let e = Z .within .limits .l-least in omega arith in
         let n : h .free ≡ h .sizes .n → ⊥ = λ e. omega arith in
@@ -148,8 +148,8 @@ module _ {h : Head} {r : Lent} (Z : Sized h r) (S : Sound h r) (v : ℕ) (k : v 
     unfolding batch calls heapOf
     new-heap = ap (λ (o : Stepped). settled (h .sizes) (o .heap)) new-taken
 
-    fit : AllFit (h .sizes) (New v ∷ [])
-    fit = calls-in-fit (h .sizes) (newWords v) (New v ∷ []) (new-calls (h .sizes .m) v k)
+    fit : AllFit (h .sizes .m) (New v ∷ [])
+    fit = calls-in-fit (h .sizes .m) (newWords v) (New v ∷ []) (new-calls (h .sizes .m) v k)
 
     new-holds : getD (batch (h .sizes) (New v ∷ []) (heapOf h r) .heap .shape .variables) v none ≡ some (h .free)
     unfolding takeCell hold heapOf
@@ -172,8 +172,8 @@ module _ {h : Head} {r : Lent} (Z : Sized h r) (S : Sound h r) (v : ℕ) (k : v 
 -- ---- the demand
 
 -- an accepted batch's calls are fit
-taken-fit : {h : Head} {r : Lent} {ws row : List ℤ} {o : Batched} (t : Taken h r ws row o) → AllFit (h .sizes) (t .callable .calls)
-taken-fit {h} {ws = ws} t = calls-in-fit (h .sizes) ws (t .callable .calls) (t .callable .decoded)
+taken-fit : {h : Head} {r : Lent} {ws row : List ℤ} {o : Batched} (t : Taken h r ws row o) → AllFit (h .sizes .m) (t .callable .calls)
+taken-fit {h} {ws = ws} t = calls-in-fit (h .sizes .m) ws (t .callable .calls) (t .callable .decoded)
 
 pub demand-2 : Demand2 ours
 demand-2 =

@@ -2,10 +2,10 @@
 use mathlib.Core.Path.{_≡_, sym, _∙_, subst}
 use Rattle.rules.specs.Run.{Heaps, ours}
 use Rattle.rules.specs.Demands.{Demand1, Demand2, Demand3, Contracts}
-use Rattle.rules.proofs.Demand1 as one
-use Rattle.rules.proofs.Demand2 as two
 use Rattle.rules.proofs.Figures.{figures-hidden}
 use Rattle.rules.proofs.AsEndless.{as-endless}
+use Rattle.rules.proofs.Demand1 as one
+use Rattle.rules.proofs.Demand2 as two
 
 pub demand-1 : Demand1 ours
 demand-1 = one.demand-1

@@ -1,20 +1,22 @@
 -- Figures decide nothing: a heap whose figures are all made 0 goes the same way. Assumes nothing.
-use Prim.Native.Nat.{ℕ, zero, suc, _+_}
+use Prim.Native.Nat.{ℕ, zero, suc, _-_}
 use mathlib.Core.Path.{_≡_, refl, sym, ap, _∙_}
-use mathlib.Core.Bool.{Bool, true, false, _||_, cond}
+use mathlib.Core.Bool.{Bool, true, false}
 use mathlib.Core.Option.{Option, none, some}
 use mathlib.Core.List.{List, [], _∷_, map}
-use lib.Dec.{eqb, ltb}
+use lib.Dec.{eqb}
 use lib.IntN.{pos}
-use lib.ListN.{length, getD, set, List·getD-map}
+use lib.ListN.{getD, set, List·getD-map}
 use Rattle.rules.specs.declared.Field.{Field}
 use Rattle.rules.specs.declared.Field.the-variants.{Nothing, Figure, Cell, Free}
+use Rattle.rules.specs.declared.Deed.{Deed}
+use Rattle.rules.specs.declared.Deed.the-variants.{Copy, Clear, Link, Put, Blank, Follow, Read, Same}
 use Rattle.rules.specs.declared.Call.{Call}
-use Rattle.rules.specs.declared.Call.the-variants.{New, Copy, Clear, Link, Put, Blank, Follow, Read, Same, Settle}
+use Rattle.rules.specs.declared.Call.the-variants.{New, Do, Settle}
 use Rattle.rules.specs.declared.Sizes.{Sizes}
 use Rattle.rules.specs.Settle.{Shape, Heap, place, field, store, drops, pick, freeCell, onPick, reclaim, replayed, settledBy, settled}
-use Rattle.rules.specs.Call.{Answer, var, at, isCell, isFigure, check, logs, write, hold, toCell, target, act, value}
-use Rattle.rules.specs.Step.{Stepped, done, refused, settledIf, full, noneFree, after, takeCell, doNew, doSettle, doCall, room, run, step, calls, batch}
+use Rattle.rules.specs.Call.{Answer, unless, var, at, isCell, isFigure, refuses, check, logs, write, hold, toCell, target, act, value}
+use Rattle.rules.specs.Step.{Stepped, refused, full, noneFree, wants, settledIf, settledFor, after, takeCell, doNew, doDeed, acted, run, step, calls, unfreed, batch}
 
 abbrev pub eraseF : Field → Field
 eraseF Nothing = Nothing
@@ -22,16 +24,19 @@ eraseF (Figure x) = Figure (pos 0)
 eraseF (Cell a) = Cell a
 eraseF (Free a) = Free a
 
+abbrev pub eraseD : Deed → Deed
+eraseD (Copy v w) = Copy v w
+eraseD (Clear v) = Clear v
+eraseD (Link v f w) = Link v f w
+eraseD (Put v f x) = Put v f (pos 0)
+eraseD (Blank v f) = Blank v f
+eraseD (Follow v f w) = Follow v f w
+eraseD (Read v f) = Read v f
+eraseD (Same v w) = Same v w
+
 abbrev pub eraseC : Call → Call
 eraseC (New v) = New v
-eraseC (Copy v w) = Copy v w
-eraseC (Clear v) = Clear v
-eraseC (Link v f w) = Link v f w
-eraseC (Put v f x) = Put v f (pos 0)
-eraseC (Blank v f) = Blank v f
-eraseC (Follow v f w) = Follow v f w
-eraseC (Read v f) = Read v f
-eraseC (Same v w) = Same v w
+eraseC (Do d) = Do (eraseD d)
 eraseC Settle = Settle
 
 abbrev pub eraseS : Shape → Shape
@@ -54,35 +59,30 @@ unfolding field
 field-erase l a f = List·getD-map eraseF l (place a f) Nothing
 
 drops-erase : (x : Field) → drops (eraseF x) ≡ drops x
-unfolding drops
 drops-erase Nothing = refl
 drops-erase (Figure x) = refl
 drops-erase (Cell a) = refl
 drops-erase (Free a) = refl
 
 after-erase : (x : Field) → after (eraseF x) ≡ after x
-unfolding after
 after-erase Nothing = refl
 after-erase (Figure x) = refl
 after-erase (Cell a) = refl
 after-erase (Free a) = refl
 
 target-erase : (x : Field) → target (eraseF x) ≡ target x
-unfolding target
 target-erase Nothing = refl
 target-erase (Figure x) = refl
 target-erase (Cell a) = refl
 target-erase (Free a) = refl
 
 is-erase : (x : Field) → (isCell (eraseF x) ≡ isCell x) × (isFigure (eraseF x) ≡ isFigure x)
-unfolding isCell isFigure
 is-erase Nothing = (refl, refl)
 is-erase (Figure x) = (refl, refl)
 is-erase (Cell a) = (refl, refl)
 is-erase (Free a) = (refl, refl)
 
 toCell-erase : (o : Option ℕ) → toCell o ≡ eraseF (toCell o)
-unfolding toCell
 toCell-erase none = refl
 toCell-erase (some a) = refl
 
@@ -112,16 +112,20 @@ reclaim-erase cap hs (suc k) h = go (pick hs (h .tables .zct)) (reclaim-erase ca
     go none ih = refl
     go (some a) ih = ap (reclaim cap hs k) (freeCell-erase cap a h) ∙ ih (freeCell cap a h)
 
+settledBy-erase : (s : Sizes) (hs : List (Option ℕ)) (h : Heap) → settledBy s hs (erase h) ≡ erase (settledBy s hs h)
+unfolding settledBy replayed
+settledBy-erase s hs h = reclaim-erase (s .cap) hs (s .n) (replayed (s .cap) h)
+
 pub settled-erase : (s : Sizes) (h : Heap) → settled s (erase h) ≡ erase (settled s h)
-unfolding settled settledBy replayed
-settled-erase s h = reclaim-erase (s .cap) (h .shape .variables) (s .n) (replayed (s .cap) h)
+unfolding settled
+settled-erase s h = settledBy-erase s (h .shape .variables) h
 
-settledIf-erase : (b : Bool) (s : Sizes) (h : Heap) → settledIf b s (erase h) ≡ erase (settledIf b s h)
+settledIf-erase : (b : Bool) (s : Sizes) (hs : List (Option ℕ)) (h : Heap) → settledIf b s hs (erase h) ≡ erase (settledIf b s hs h)
 unfolding settledIf
-settledIf-erase true s h = settled-erase s h
-settledIf-erase false s h = refl
+settledIf-erase true s hs h = settledBy-erase s hs h
+settledIf-erase false s hs h = refl
 
--- ---- the calls
+-- ---- the deeds
 
 at-erase : (s : Shape) (v f : ℕ) → at (eraseS s) v f ≡ eraseF (at s v f)
 unfolding at var
@@ -134,22 +138,19 @@ at-erase s v f = go (getD (s .variables) v none)
     go none = refl
     go (some a) = field-erase (s .fields) a f
 
-pub check-erase : (c : Call) (s : Shape) → check (eraseC c) (eraseS s) ≡ check c s
-unfolding check var
-check-erase (New v) s = refl
-check-erase (Copy v w) s = refl
-check-erase (Clear v) s = refl
-check-erase (Link v f w) s = refl
-check-erase (Put v f x) s = refl
-check-erase (Blank v f) s = refl
-check-erase (Follow v f w) s = rw (at-erase s v f, is-erase (at s v f) .0)
-check-erase (Read v f) s = rw (at-erase s v f, is-erase (at s v f) .1)
-check-erase (Same v w) s = refl
-check-erase Settle s = refl
+refuses-erase : (d : Deed) (s : Shape) → refuses (eraseD d) (eraseS s) ≡ refuses d s
+unfolding refuses var
+refuses-erase (Copy v w) s = refl
+refuses-erase (Clear v) s = refl
+refuses-erase (Link v f w) s = refl
+refuses-erase (Put v f x) s = refl
+refuses-erase (Blank v f) s = refl
+refuses-erase (Follow v f w) s = rw (at-erase s v f, is-erase (at s v f) .0)
+refuses-erase (Read v f) s = rw (at-erase s v f, is-erase (at s v f) .1)
+refuses-erase (Same v w) s = refl
 
-logs-erase : (c : Call) (s : Shape) → logs (eraseC c) (eraseS s) ≡ logs c s
+logs-erase : (d : Deed) (s : Shape) → logs (eraseD d) (eraseS s) ≡ logs d s
 unfolding logs var
-logs-erase (New v) s = refl
 logs-erase (Copy v w) s = refl
 logs-erase (Clear v) s = refl
 logs-erase (Link v f w) s = rw (at-erase s v f, drops-erase (at s v f))
@@ -158,7 +159,6 @@ logs-erase (Blank v f) s = rw (at-erase s v f, drops-erase (at s v f))
 logs-erase (Follow v f w) s = refl
 logs-erase (Read v f) s = refl
 logs-erase (Same v w) s = refl
-logs-erase Settle s = refl
 
 write-erase : (s : Shape) (v f : ℕ) (x : Field) → write (eraseS s) v f (eraseF x) ≡ eraseS (write s v f x)
 unfolding write var
@@ -171,9 +171,8 @@ write-erase s v f x = go (getD (s .variables) v none)
     go none = refl
     go (some a) = rw (store-erase (s .fields) a f x)
 
-act-erase : (c : Call) (s : Shape) → act (eraseC c) (eraseS s) ≡ eraseS (act c s)
+act-erase : (d : Deed) (s : Shape) → act (eraseD d) (eraseS s) ≡ eraseS (act d s)
 unfolding act hold var
-act-erase (New v) s = refl
 act-erase (Copy v w) s = refl
 act-erase (Clear v) s = refl
 act-erase (Link v f w) s = ap (write (eraseS s) v f) (toCell-erase (getD (s .variables) w none)) ∙ write-erase s v f (toCell (getD (s .variables) w none))
@@ -182,41 +181,39 @@ act-erase (Blank v f) s = write-erase s v f Nothing
 act-erase (Follow v f w) s = rw (at-erase s v f, target-erase (at s v f))
 act-erase (Read v f) s = refl
 act-erase (Same v w) s = refl
-act-erase Settle s = refl
 
 -- ---- what a call answers
 
 abbrev pub isRead : Call → Bool
 isRead (New v) = false
-isRead (Copy v w) = false
-isRead (Clear v) = false
-isRead (Link v f w) = false
-isRead (Put v f x) = false
-isRead (Blank v f) = false
-isRead (Follow v f w) = false
-isRead (Read v f) = true
-isRead (Same v w) = false
+isRead (Do (Copy v w)) = false
+isRead (Do (Clear v)) = false
+isRead (Do (Link v f w)) = false
+isRead (Do (Put v f x)) = false
+isRead (Do (Blank v f)) = false
+isRead (Do (Follow v f w)) = false
+isRead (Do (Read v f)) = true
+isRead (Do (Same v w)) = false
 isRead Settle = false
 
 isRead-erase : (c : Call) → isRead (eraseC c) ≡ isRead c
 isRead-erase (New v) = refl
-isRead-erase (Copy v w) = refl
-isRead-erase (Clear v) = refl
-isRead-erase (Link v f w) = refl
-isRead-erase (Put v f x) = refl
-isRead-erase (Blank v f) = refl
-isRead-erase (Follow v f w) = refl
-isRead-erase (Read v f) = refl
-isRead-erase (Same v w) = refl
+isRead-erase (Do (Copy v w)) = refl
+isRead-erase (Do (Clear v)) = refl
+isRead-erase (Do (Link v f w)) = refl
+isRead-erase (Do (Put v f x)) = refl
+isRead-erase (Do (Blank v f)) = refl
+isRead-erase (Do (Follow v f w)) = refl
+isRead-erase (Do (Read v f)) = refl
+isRead-erase (Do (Same v w)) = refl
 isRead-erase Settle = refl
 
 -- a read with status 0 answers a figure
 abbrev pub Figured : Call → ℕ → Type 0
 Figured c k = (isRead c ≡ true) × (k ≡ 0)
 
-value-erase : (c : Call) (s : Shape) → (Figured c 0 → ⊥) → value (eraseC c) (eraseS s) ≡ value c s
+value-erase : (d : Deed) (s : Shape) → (Figured (Do d) 0 → ⊥) → value (eraseD d) (eraseS s) ≡ value d s
 unfolding value var
-value-erase (New v) s r = refl
 value-erase (Copy v w) s r = refl
 value-erase (Clear v) s r = refl
 value-erase (Link v f w) s r = refl
@@ -225,7 +222,6 @@ value-erase (Blank v f) s r = refl
 value-erase (Follow v f w) s r = refl
 value-erase (Read v f) s r = absurd (r (refl, refl))
 value-erase (Same v w) s r = refl
-value-erase Settle s r = refl
 
 -- the outcomes o and p agree: p is o with its figures made 0, but for the figure that a read answers
 pub record Alike (c : Call) (o p : Stepped) : Type 0 where
@@ -237,53 +233,49 @@ takeCell-erase : (v : ℕ) (h : Heap) → takeCell v (erase h) ≡ erase (takeCe
 unfolding takeCell hold
 takeCell-erase v h = rw (field-erase (h .shape .fields) (h .first) 0, after-erase (field (h .shape .fields) (h .first) 0), store-erase (h .shape .fields) (h .first) 0 Nothing)
 
-doCall-alike : (c : Call) (h : Heap) → Alike c (doCall c h) (doCall (eraseC c) (erase h))
-unfolding doCall
-doCall-alike c h =
+doDeed-alike : (d : Deed) (h : Heap) → Alike (Do d) (doDeed d h) (doDeed (eraseD d) (erase h))
+unfolding doDeed
+doDeed-alike d h =
     record {
-      heaps = rw (act-erase c (h .shape), logs-erase c (h .shape));
+      heaps = rw (act-erase d (h .shape), logs-erase d (h .shape));
       statuses = refl;
-      values = λ r. value-erase c (h .shape) r;
+      values = λ r. value-erase d (h .shape) r;
     }
 
-room-erase : (s : Sizes) (c : Call) (h : Heap) → room s (eraseC c) (erase h) ≡ erase (room s c h)
-unfolding room full
-room-erase s c h = rw (logs-erase c (h .shape)) (settledIf-erase (ltb (s .l) (length (h .log) + length (logs c (h .shape)))) s h)
+doNew-alike : (q : Bool) (v : ℕ) (h : Heap) → Alike (New v) (doNew q v h) (doNew q v (erase h))
+unfolding doNew
+doNew-alike true v h = record { heaps = refl; statuses = refl; values = λ r. refl }
+doNew-alike false v h = record { heaps = takeCell-erase v h; statuses = refl; values = λ r. refl }
 
-room-alike : (s : Sizes) (c : Call) (h : Heap) → Alike c (doCall c (room s c h)) (doCall (eraseC c) (room s (eraseC c) (erase h)))
-room-alike s c h = rw (room-erase s c h) (doCall-alike c (room s c h))
+acted-alike : (s : Sizes) (c : Call) (k : ℕ) (h : Heap) → Alike c (acted s c k h) (acted s (eraseC c) k (erase h))
+unfolding acted noneFree
+acted-alike s (New v) k h = doNew-alike (eqb (h .first) (s .n)) v h
+acted-alike s (Do d) k h = doDeed-alike d h
+acted-alike s Settle k h = record { heaps = refl; statuses = refl; values = λ r. refl }
 
-new-alike : (s : Sizes) (v : ℕ) (h : Heap) → Alike (New v) (doNew s v h) (doNew s v (erase h))
-unfolding doNew noneFree
-new-alike s v h = go (eqb (h .first) (s .n))
-  where
-    go : (q : Bool) → Alike (New v) (cond q (refused h 14) (done (takeCell v h) (pos 0))) (cond q (refused (erase h) 14) (done (takeCell v (erase h)) (pos 0)))
-    go true = record { heaps = refl; statuses = refl; values = λ r. refl }
-    go false = record { heaps = takeCell-erase v h; statuses = refl; values = λ r. refl }
+wants-erase : (s : Sizes) (c : Call) (h : Heap) → wants s (eraseC c) (erase h) ≡ wants s c h
+unfolding wants full noneFree
+wants-erase s (New v) h = refl
+wants-erase s (Do d) h = rw (logs-erase d (h .shape))
+wants-erase s Settle h = refl
+
+for-erase : (s : Sizes) (c : Call) (h : Heap) → settledFor s (eraseC c) (erase h) ≡ erase (settledFor s c h)
+for-erase s c h = rw (wants-erase s c h) (settledIf-erase (wants s c h) s (h .shape .variables) h)
 
 run-alike : (s : Sizes) (c : Call) (h : Heap) → Alike c (run s c h) (run s (eraseC c) (erase h))
-unfolding run doSettle full noneFree
-run-alike s (New v) h =
-    let b = ltb (s .l) (length (h .log) + 1) || eqb (h .first) (s .n) in
-    rw (settledIf-erase b s h) (new-alike s v (settledIf b s h))
-run-alike s (Copy v w) h = doCall-alike (Copy v w) h
-run-alike s (Clear v) h = doCall-alike (Clear v) h
-run-alike s (Link v f w) h = room-alike s (Link v f w) h
-run-alike s (Put v f x) h = room-alike s (Put v f x) h
-run-alike s (Blank v f) h = room-alike s (Blank v f) h
-run-alike s (Follow v f w) h = doCall-alike (Follow v f w) h
-run-alike s (Read v f) h = doCall-alike (Read v f) h
-run-alike s (Same v w) h = doCall-alike (Same v w) h
-run-alike s Settle h = rw (settled-erase s h) (record { heaps = refl; statuses = refl; values = λ r. refl })
+unfolding run
+run-alike s c h = let k = settledFor s c h in rw (for-erase s c h) (acted-alike s c (k .freed - h .freed) k)
+
+check-erase : (c : Call) (s : Shape) → check (eraseC c) (eraseS s) ≡ check c s
+check-erase (New v) s = refl
+check-erase (Do d) s = refuses-erase d s
+check-erase Settle s = refl
 
 pub step-alike : (s : Sizes) (c : Call) (h : Heap) → Alike c (step s c h) (step s (eraseC c) (erase h))
 unfolding step
-step-alike s c h = rw (check-erase c (h .shape), step) (go (check c (h .shape)))
+step-alike s c h = rw (check-erase c (h .shape)) (go (check c (h .shape)))
   where
-    of : Call → Heap → ℕ → Stepped
-    of c h k = elim k [ zero ↦ run s c h | suc j ↦ refused h (suc j) ]
-
-    go : (k : ℕ) → Alike c (of c h k) (of (eraseC c) (erase h) k)
+    go : (k : ℕ) → Alike c (unless k (refused h) (run s c h)) (unless k (refused (erase h)) (run s (eraseC c) (erase h)))
     go zero = run-alike s c h
     go (suc j) = record { heaps = refl; statuses = refl; values = λ r. refl }
 
@@ -332,10 +324,6 @@ calls-blind s (c ∷ cs) (d ∷ ds) h k e f =
     let b = step-blind s c d h k (e .0) f in
     let r = calls-blind s cs ds (step s c h .heap) (step s d k .heap) (e .1) (b .heaps) in
     (r .0, (b .statuses, b .values, r .1))
-
--- the count of cells freed set back
-abbrev unfreed : Heap → Heap
-unfreed h = record { shape = h .shape; first = h .first; tables = h .tables; log = h .log; freed = 0 }
 
 pub batch-blind : (s : Sizes) (cs ds : List Call) (h k : Heap) → SameCalls cs ds → erase h ≡ erase k
     → (erase (batch s cs h .heap) ≡ erase (batch s ds k .heap)) × SameAnswers cs (batch s cs h .answers) (batch s ds k .answers)

@@ -13,7 +13,7 @@ use Rattle.rules.specs.declared.Field.{Field}
 use Rattle.rules.specs.declared.Field.the-variants.{Nothing, Figure, Cell, Free}
 use Rattle.rules.specs.Rules.{Tables, Transaction, creates, destroys, apply, replay}
 use Rattle.rules.specs.Settle.{drops}
-use Rattle.rules.proofs.Invariant.{hit, refs, count, named, Counted}
+use Rattle.rules.specs.Invariant.{hit, refs, count, named, Counted}
 use Rattle.rules.proofs.Tables.{view-other, up, down, count-create, count-destroy, ok-at-create, ok-at-destroy}
 
 pub refs-set : (fs : List Field) (i : ℕ) (x : Field) (a : ℕ) → i < length fs → refs (set fs i x) a + hit (getD fs i Nothing) a ≡ refs fs a + hit x a
@@ -60,7 +60,7 @@ module _ (cap : ℕ) (cap3 : 3 ≤ cap) where
       }
 
   pub drop-counted : (old : Field) {t : Tables} {r r′ : ℕ} {lv : Bool} {b : ℕ} → r ≡ r′ + hit old b → Counted cap t r lv b → Counted cap (replay cap (drops old) t) r′ lv b
-  unfolding drops replay
+  unfolding replay
   drop-counted Nothing e c = same-r (omega arith) c
   drop-counted (Figure x) e c = same-r (omega arith) c
   drop-counted (Free a) e c = same-r (omega arith) c

@@ -1,9 +1,9 @@
 -- What is said of a settle, a call and a batch, over any heap with the invariant. Assumes nothing.
-use Prim.Native.Nat.{ℕ, zero, suc, _+_, _<_, _≤_}
+use Prim.Native.Nat.{ℕ, zero, suc, _+_, _-_, _<_, _≤_}
 use mathlib.Core.Path.{_≡_, refl, sym, ap, _∙_}
 use mathlib.Core.Logic.{_⊎_, inl, inr, _↔_}
-use mathlib.Core.Bool.{Bool, true, false, _||_, cond, true≢false, false≢true}
-use mathlib.Core.Option.{none, some}
+use mathlib.Core.Bool.{Bool, true, false, _&&_, _||_, cond, true≢false, false≢true}
+use mathlib.Core.Option.{Option, none, some}
 use mathlib.Core.List.{List, [], _∷_}
 use native.Mathlib.Omega.{arith}
 use lib.Dec.{eqb}
@@ -12,24 +12,26 @@ use lib.ListN.{length}
 use lib.Seq.{getD-set-same}
 use borrow.Author.Tests.{ne-eqb}
 use Rattle.rules.specs.declared.Field.the-variants.{Nothing}
+use Rattle.rules.specs.declared.Deed.{Deed}
+use Rattle.rules.specs.declared.Deed.the-variants.{Copy, Clear, Link, Put, Blank, Follow, Read, Same}
 use Rattle.rules.specs.declared.Call.{Call}
-use Rattle.rules.specs.declared.Call.the-variants.{New, Copy, Clear, Link, Put, Blank, Follow, Read, Same, Settle}
+use Rattle.rules.specs.declared.Call.the-variants.{New, Do, Settle}
 use Rattle.rules.specs.declared.Sizes.{Sizes}
 use Rattle.rules.specs.Table.{has}
 use Rattle.rules.specs.Rules.{replay}
 use Rattle.rules.specs.Settle.{Shape, Heap, holds, pick, place, field, reclaim, replayed, settledBy, settled}
-use Rattle.rules.specs.Call.{Answer, answer, var, want, orElse, check, logs, hold}
+use Rattle.rules.specs.Call.{Answer, InRange, Fits, AllFit, unless, var, at, isHeld, isCell, isFigure, want, orElse, refuses, check, hold}
 use Rattle.rules.specs.Demands.{isNew}
-use Rattle.rules.specs.Step.{Stepped, done, refused, settledIf, full, noneFree, takeCell, doNew, doSettle, doCall, room, run, step, calls, batch}
+use Rattle.rules.specs.Step.{Stepped, refused, settledIf, full, noneFree, takeCell, doNew, run, step, calls, batch, wants, counted, settledFor, doDeed, acted, unfreed}
 use Rattle.rules.specs.Head.{Limits}
-use Rattle.rules.proofs.Invariant.{refs, live, count, Inv, Ended}
+use Rattle.rules.specs.Invariant.{refs, live, Inv, Ended, count}
 use Rattle.rules.proofs.Tables.{eqb-self}
 use Rattle.rules.proofs.Sorted.{replay-kept}
 use Rattle.rules.proofs.Cells.{lives, lives-taken, live-store-0, field-same, field-across}
 use Rattle.rules.proofs.Reclaim.{pick-least, pick-some, pick-none, reclaim-idle, reclaim-kept, reclaim-live, taken-when}
 use Rattle.rules.proofs.FreeList.{frees-none}
-use Rattle.rules.proofs.Calls.{Fits, AllFit, act-lives}
-use Rattle.rules.proofs.Step.{SameCheck, settledBy-good, settledBy-sum, settled-done, settled-inv, settledIf-inv, taken, room-check, step-inv, counted-from-0}
+use Rattle.rules.proofs.Calls.{act-lives}
+use Rattle.rules.proofs.Step.{settledBy-good, settledBy-sum, settled-done, settled-inv, taken, step-inv, counted-from-0, for-inv, for-right}
 
 -- ---- the turns of a settle
 
@@ -58,86 +60,74 @@ madeIn (c ∷ cs) (r ∷ rs) = made c r + madeIn cs rs
 -- ---- refusals that need no invariant
 
 want-below : (b : Bool) (k : ℕ) → k < 14 → want b k < 14
-unfolding want
 want-below true k h = omega arith
 want-below false k h = h
 
-else-below : (j k : ℕ) → j < 14 → k < 14 → orElse j k < 14
-unfolding orElse
-else-below zero k h i = i
-else-below (suc j) k h i = h
+then-below : (p q : Bool) (k : ℕ) → k < 14 → orElse (want p 11) (want q k) < 14
+then-below true q k h = want-below q k h
+then-below false q k h = omega arith
 
 -- the check gives 0 or 11 to 13
 pub check-below : (c : Call) (sh : Shape) → check c sh < 14
-unfolding check
+unfolding refuses
 check-below (New v) sh = omega arith
-check-below (Copy v w) sh = omega arith
-check-below (Clear v) sh = omega arith
-check-below (Link v f w) sh = want-below _ 11 (omega arith)
-check-below (Put v f x) sh = want-below _ 11 (omega arith)
-check-below (Blank v f) sh = want-below _ 11 (omega arith)
-check-below (Follow v f w) sh = else-below _ _ (want-below _ 11 (omega arith)) (want-below _ 12 (omega arith))
-check-below (Read v f) sh = else-below _ _ (want-below _ 11 (omega arith)) (want-below _ 13 (omega arith))
-check-below (Same v w) sh = want-below _ 11 (omega arith)
+check-below (Do (Copy v w)) sh = omega arith
+check-below (Do (Clear v)) sh = omega arith
+check-below (Do (Link v f w)) sh = want-below (isHeld (var sh v) && isHeld (var sh w)) 11 (omega arith)
+check-below (Do (Put v f x)) sh = want-below (isHeld (var sh v)) 11 (omega arith)
+check-below (Do (Blank v f)) sh = want-below (isHeld (var sh v)) 11 (omega arith)
+check-below (Do (Follow v f w)) sh = then-below (isHeld (var sh v)) (isCell (at sh v f)) 12 (omega arith)
+check-below (Do (Read v f)) sh = then-below (isHeld (var sh v)) (isFigure (at sh v f)) 13 (omega arith)
+check-below (Do (Same v w)) sh = want-below (isHeld (var sh v) && isHeld (var sh w)) 11 (omega arith)
 check-below Settle sh = omega arith
 
 module _ (s : Sizes) where
-  -- the heap that a new finds after its settle
-  abbrev pub forNew : Heap → Heap
-  forNew h = settledIf (full s 1 h || noneFree s h) s h
-
   -- new says 14 exactly where no cell is free after the settle, if one was made
-  pub fourteen-exactly : (v : ℕ) (h : Heap) → (step s (New v) h .answer .status ≡ 14) ↔ (noneFree s (forNew h) ≡ true)
-  unfolding step check run doNew
-  fourteen-exactly v h = go (noneFree s (forNew h)) (forNew h)
+  pub fourteen-exactly : (v : ℕ) (h : Heap) → (step s (New v) h .answer .status ≡ 14) ↔ (noneFree s (settledFor s (New v) h) ≡ true)
+  unfolding step run acted doNew
+  fourteen-exactly v h = go (noneFree s (settledFor s (New v) h)) (settledFor s (New v) h)
     where
-      go : (q : Bool) (k : Heap) → ((cond q (refused k 14) (done (takeCell v k) (pos 0))) .answer .status ≡ 14) ↔ (q ≡ true)
+      go : (q : Bool) (k : Heap) → (doNew q v k .answer .status ≡ 14) ↔ (q ≡ true)
       go true k = (λ e. refl, λ e. refl)
       go false k = (λ e. absurd (omega arith), λ e. absurd (false≢true e))
 
   -- with no cell free after that, a settle was made
-  none-free-settled : (h : Heap) → noneFree s (forNew h) ≡ true → (noneFree s (settled s h) ≡ true) × (forNew h ≡ settled s h)
-  unfolding settledIf
-  none-free-settled h e = go (full s 1 h) (noneFree s h) refl e
+  none-free-settled : (v : ℕ) (h : Heap) → noneFree s (settledFor s (New v) h) ≡ true → settledFor s (New v) h ≡ settledBy s (counted (New v) h) h
+  unfolding wants settledIf
+  none-free-settled v h e = go (full s 1 h) (noneFree s h) refl e
     where
-      go : (p q : Bool) → noneFree s h ≡ q → noneFree s (settledIf (p || q) s h) ≡ true → (noneFree s (settled s h) ≡ true) × (settledIf (p || q) s h ≡ settled s h)
-      go true q d e = (e, refl)
-      go false true d e = (e, refl)
+      hs : List (Option ℕ)
+      hs = h .shape .variables
+
+      go : (p q : Bool) → noneFree s h ≡ q → noneFree s (settledIf (p || q) s hs h) ≡ true → settledIf (p || q) s hs h ≡ settledBy s hs h
+      go true q d e = refl
+      go false true d e = refl
       go false false d e = absurd (false≢true (sym d ∙ e))
 
-  pub fourteen-settled : (v : ℕ) (h : Heap) → step s (New v) h .answer .status ≡ 14 → noneFree s (settled s h) ≡ true
-  fourteen-settled v h e = none-free-settled h (fourteen-exactly v h .0 e) .0
+  pub fourteen-settled : (v : ℕ) (h : Heap) → step s (New v) h .answer .status ≡ 14 → noneFree s (settledBy s (counted (New v) h) h) ≡ true
+  fourteen-settled v h e = let f = fourteen-exactly v h .0 e in rw (none-free-settled v h f) at f
 
   -- a call that passed its check is refused by 14 alone, after one settle
-  run-refused : (c : Call) (h : Heap) (k : ℕ) → run s c h .answer .status ≡ suc k → (run s c h .answer .value ≡ pos 0) × ((suc k ≡ 14) × (run s c h .heap ≡ settled s h))
-  unfolding run doNew doCall doSettle
-  run-refused (New v) h k e = go (noneFree s (forNew h)) (none-free-settled h) e
+  run-refused : (c : Call) (h : Heap) (k : ℕ) → run s c h .answer .status ≡ suc k → (run s c h .answer .value ≡ pos 0) × ((suc k ≡ 14) × (run s c h .heap ≡ settledBy s (counted c h) h))
+  unfolding run acted doNew doDeed
+  run-refused (New v) h k e = go (noneFree s (settledFor s (New v) h)) refl e
     where
-      go : (q : Bool) → (q ≡ true → (noneFree s (settled s h) ≡ true) × (forNew h ≡ settled s h)) → (cond q (refused (forNew h) 14) (done (takeCell v (forNew h)) (pos 0))) .answer .status ≡ suc k
-          → ((cond q (refused (forNew h) 14) (done (takeCell v (forNew h)) (pos 0))) .answer .value ≡ pos 0)
-          × ((suc k ≡ 14) × ((cond q (refused (forNew h) 14) (done (takeCell v (forNew h)) (pos 0))) .heap ≡ settled s h))
-      go true f e = (refl, (sym e, f refl .1))
-      go false f e = absurd (omega arith)
-  run-refused (Copy v w) h k e = absurd (omega arith)
-  run-refused (Clear v) h k e = absurd (omega arith)
-  run-refused (Link v f w) h k e = absurd (omega arith)
-  run-refused (Put v f x) h k e = absurd (omega arith)
-  run-refused (Blank v f) h k e = absurd (omega arith)
-  run-refused (Follow v f w) h k e = absurd (omega arith)
-  run-refused (Read v f) h k e = absurd (omega arith)
-  run-refused (Same v w) h k e = absurd (omega arith)
+      go : (q : Bool) → noneFree s (settledFor s (New v) h) ≡ q → doNew q v (settledFor s (New v) h) .answer .status ≡ suc k
+          → (doNew q v (settledFor s (New v) h) .answer .value ≡ pos 0) × ((suc k ≡ 14) × (doNew q v (settledFor s (New v) h) .heap ≡ settledBy s (counted (New v) h) h))
+      go true d e = (refl, (sym e, none-free-settled v h d))
+      go false d e = absurd (omega arith)
+  run-refused (Do d) h k e = absurd (omega arith)
   run-refused Settle h k e = absurd (omega arith)
 
   -- a call refused has value nought; by 11 to 13 it leaves the heap as it was, by 14 after one settle
   abbrev pub Refused : Call → Heap → ℕ → Stepped → Type 0
-  Refused c h k o = (o .answer .value ≡ pos 0) × (((check c (h .shape) ≡ suc k) × (o .heap ≡ h)) ⊎ ((suc k ≡ 14) × (o .heap ≡ settled s h)))
+  Refused c h k o = (o .answer .value ≡ pos 0) × (((check c (h .shape) ≡ suc k) × (o .heap ≡ h)) ⊎ ((suc k ≡ 14) × (o .heap ≡ settledBy s (counted c h) h)))
 
   pub call-refused : (c : Call) (h : Heap) (k : ℕ) → step s c h .answer .status ≡ suc k → Refused c h k (step s c h)
   unfolding step
   call-refused c h k e = go (check c (h .shape)) refl e
     where
-      go : (q : ℕ) → check c (h .shape) ≡ q → (elim q as (λ x. Stepped) [ zero ↦ run s c h | suc j ↦ refused h (suc j) ]) .answer .status ≡ suc k
-          → Refused c h k (elim q as (λ x. Stepped) [ zero ↦ run s c h | suc j ↦ refused h (suc j) ])
+      go : (q : ℕ) → check c (h .shape) ≡ q → unless q (refused h) (run s c h) .answer .status ≡ suc k → Refused c h k (unless q (refused h) (run s c h))
       go zero d e = let r = run-refused c h k e in (r .0, inr (r .1))
       go (suc j) d e = (refl, inl (d ∙ e, refl))
 
@@ -196,81 +186,63 @@ module _ (s : Sizes) (ok : Limits s) where
   unfolding settled
   settled-sum h g = settledBy-sum s ok (h .shape .variables) h (g .good)
 
-  settledIf-sum : (b : Bool) (h : Heap) → Inv s h → Sum (settledIf b s h) ≡ Sum h
+  for-sum : (c : Call) (h : Heap) → Inv s h → Sum (settledFor s c h) ≡ Sum h
   unfolding settledIf
-  settledIf-sum true h g = settled-sum h g
-  settledIf-sum false h g = refl
+  for-sum c h g = go (wants s c h)
+    where
+      go : (b : Bool) → Sum (settledIf b s (h .shape .variables) h) ≡ Sum h
+      go true = settledBy-sum s ok (h .shape .variables) h (g .good)
+      go false = refl
 
   -- new takes one cell into use
   pub take-lives : (v : ℕ) (h : Heap) → Inv s h → noneFree s h ≡ false → lives (takeCell v h .shape .fields) ≡ suc (lives (h .shape .fields))
   unfolding takeCell hold
   take-lives v h g d = let T = taken s ok h g d in lives-taken (h .shape .fields) (h .first) (T .was-free) (T .there)
 
-  -- the other calls none
-  pub call-lives : (c : Call) (h : Heap) → Inv s h → Fits s c → check c (h .shape) ≡ 0 → lives (doCall c h .heap .shape .fields) ≡ lives (h .shape .fields)
-  unfolding doCall
-  call-lives c h g f e = act-lives s ok (h .shape) (replay (s .cap) (h .log) (h .tables)) (g .good) c f e
-
-  doNew-sum : (v : ℕ) (h : Heap) → Inv s h → Sum (doNew s v h .heap) ≡ Sum h + made (New v) (doNew s v h .answer)
+  doNew-sum : (v : ℕ) (h : Heap) → Inv s h → Sum (doNew (noneFree s h) v h .heap) ≡ Sum h + made (New v) (doNew (noneFree s h) v h .answer)
   unfolding doNew
   doNew-sum v h g = go (noneFree s h) refl
     where
-      out : Bool → Stepped
-      out q = cond q (refused h 14) (done (takeCell v h) (pos 0))
-
       same-freed : takeCell v h .freed ≡ h .freed
       same-freed = taken-freed v h
 
-      go : (q : Bool) → noneFree s h ≡ q → Sum (out q .heap) ≡ Sum h + made (New v) (out q .answer)
+      go : (q : Bool) → noneFree s h ≡ q → Sum (doNew q v h .heap) ≡ Sum h + made (New v) (doNew q v h .answer)
       go true d = omega arith
       go false d = let l = take-lives v h g d in let e = same-freed in omega arith
 
-  doCall-sum : (c : Call) (h : Heap) → Inv s h → Fits s c → check c (h .shape) ≡ 0 → Sum (doCall c h .heap) ≡ Sum h
-  unfolding doCall
-  doCall-sum c h g f e = let l = call-lives c h g f e in omega arith
-
-  room-sum : (c : Call) (h : Heap) → Inv s h → Fits s c → check c (h .shape) ≡ 0 → SameCheck c → Sum (doCall c (room s c h) .heap) ≡ Sum h
-  unfolding room
-  room-sum c h g f e p =
-      let b = full s (length (logs c (h .shape))) h in
-      doCall-sum c (room s c h) (settledIf-inv s ok b h g .0) f (room-check s ok c h g p e) ∙ settledIf-sum b h g
+  -- the deeds none
+  doDeed-sum : (d : Deed) (h : Heap) → Inv s h → InRange (s .m) d → refuses d (h .shape) ≡ 0 → Sum (doDeed d h .heap) ≡ Sum h
+  unfolding doDeed
+  doDeed-sum d h g f e = let l = act-lives s ok (h .shape) (replay (s .cap) (h .log) (h .tables)) (g .good) d f e in omega arith
 
   plus-0 : (m n : ℕ) → m ≡ n → m ≡ n + 0
   plus-0 m n e = omega arith
 
-  run-sum : (c : Call) (h : Heap) → Inv s h → Fits s c → check c (h .shape) ≡ 0 → Sum (run s c h .heap) ≡ Sum h + made c (run s c h .answer)
-  unfolding run doSettle doCall check var
-  run-sum (New v) h g f e =
-      let b = full s 1 h || noneFree s h in
-      let r = doNew-sum v (settledIf b s h) (settledIf-inv s ok b h g .0) in
-      let q = settledIf-sum b h g in
-      omega arith
-  run-sum (Copy v w) h g f e = plus-0 _ _ (doCall-sum (Copy v w) h g f e)
-  run-sum (Clear v) h g f e = plus-0 _ _ (doCall-sum (Clear v) h g f e)
-  run-sum (Link v f w) h g k e = plus-0 _ _ (room-sum (Link v f w) h g k e (λ a b p. rw p))
-  run-sum (Put v f x) h g k e = plus-0 _ _ (room-sum (Put v f x) h g k e (λ a b p. rw p))
-  run-sum (Blank v f) h g k e = plus-0 _ _ (room-sum (Blank v f) h g k e (λ a b p. rw p))
-  run-sum (Follow v f w) h g k e = plus-0 _ _ (doCall-sum (Follow v f w) h g k e)
-  run-sum (Read v f) h g k e = plus-0 _ _ (doCall-sum (Read v f) h g k e)
-  run-sum (Same v w) h g f e = plus-0 _ _ (doCall-sum (Same v w) h g f e)
-  run-sum Settle h g f e = plus-0 _ _ (settled-sum h g)
+  acted-sum : (c : Call) (k : ℕ) (h : Heap) → Inv s h → Fits (s .m) c → check c (h .shape) ≡ 0 → Sum (acted s c k h .heap) ≡ Sum h + made c (acted s c k h .answer)
+  unfolding acted
+  acted-sum (New v) k h g f e = doNew-sum v h g
+  acted-sum (Do d) k h g f e = plus-0 _ _ (doDeed-sum d h g f e)
+  acted-sum Settle k h g f e = plus-0 _ _ refl
 
-  pub step-sum : (c : Call) (h : Heap) → Inv s h → Fits s c → Sum (step s c h .heap) ≡ Sum h + made c (step s c h .answer)
+  run-sum : (c : Call) (h : Heap) → Inv s h → Fits (s .m) c → check c (h .shape) ≡ 0 → Sum (run s c h .heap) ≡ Sum h + made c (run s c h .answer)
+  unfolding run
+  run-sum c h g f e =
+      let k = settledFor s c h in
+      rw (← for-sum c h g) (acted-sum c (k .freed - h .freed) k (for-inv s ok c h g) f (for-right s ok c h g e))
+
+  pub step-sum : (c : Call) (h : Heap) → Inv s h → Fits (s .m) c → Sum (step s c h .heap) ≡ Sum h + made c (step s c h .answer)
   unfolding step
   step-sum c h g f = go (check c (h .shape)) refl
     where
-      out : ℕ → Stepped
-      out k = elim k as (λ x. Stepped) [ zero ↦ run s c h | suc j ↦ refused h (suc j) ]
-
       none-made : (q : Bool) → Sum h ≡ Sum h + cond q 0 0
       none-made true = plus-0 (Sum h) (Sum h) refl
       none-made false = plus-0 (Sum h) (Sum h) refl
 
-      go : (k : ℕ) → check c (h .shape) ≡ k → Sum (out k .heap) ≡ Sum h + made c (out k .answer)
+      go : (k : ℕ) → check c (h .shape) ≡ k → Sum (unless k (refused h) (run s c h) .heap) ≡ Sum h + made c (unless k (refused h) (run s c h) .answer)
       go zero e = run-sum c h g f e
       go (suc j) e = rw (ne-eqb (suc j) 0 (omega arith)) (none-made (isNew c))
 
-  pub calls-sum : (cs : List Call) (h : Heap) → Inv s h → AllFit s cs → Sum (calls s cs h .heap) ≡ Sum h + madeIn cs (calls s cs h .answers)
+  pub calls-sum : (cs : List Call) (h : Heap) → Inv s h → AllFit (s .m) cs → Sum (calls s cs h .heap) ≡ Sum h + madeIn cs (calls s cs h .answers)
   unfolding calls
   calls-sum [] h g f = plus-0 _ _ (settled-sum h g)
   calls-sum (c ∷ cs) h g f =
@@ -279,11 +251,11 @@ module _ (s : Sizes) (ok : Limits s) where
       omega arith
 
   -- a batch's count is the number of cells that it freed: with those in use at its end, all that were in use or made
-  pub count-is-freed : (cs : List Call) (h : Heap) → Inv s h → AllFit s cs
+  pub count-is-freed : (cs : List Call) (h : Heap) → Inv s h → AllFit (s .m) cs
       → lives (batch s cs h .heap .shape .fields) + batch s cs h .heap .freed ≡ lives (h .shape .fields) + madeIn cs (batch s cs h .answers)
   unfolding batch
   count-is-freed cs h g f =
-      let e = calls-sum cs (record { shape = h .shape; first = h .first; tables = h .tables; log = h .log; freed = 0 }) (counted-from-0 s ok h g) f in
+      let e = calls-sum cs (unfreed h) (counted-from-0 s ok h g) f in
       omega arith
 
   -- ---- new
@@ -305,10 +277,10 @@ module _ (s : Sizes) (ok : Limits s) where
 
   -- new says 14 exactly where a settle leaves no cell free
   pub fourteen-full : (v : ℕ) (h : Heap) → Inv s h → (step s (New v) h .answer .status ≡ 14) ↔ (noneFree s (settled s h) ≡ true)
-  unfolding settledIf
+  unfolding settled wants settledIf
   fourteen-full v h g = (fourteen-settled s v h, λ e. fourteen-exactly s v h .1 (go (full s 1 h) e))
     where
-      go : (p : Bool) → noneFree s (settled s h) ≡ true → noneFree s (settledIf (p || noneFree s h) s h) ≡ true
+      go : (p : Bool) → noneFree s (settled s h) ≡ true → noneFree s (settledIf (p || noneFree s h) s (h .shape .variables) h) ≡ true
       go true e = e
       go false e = rw (none-free-before h g e) e
 
@@ -336,13 +308,10 @@ module _ (s : Sizes) (ok : Limits s) where
       }
 
   -- a new answered 0 takes the first free cell: a cell freed before is handed out again
-  pub handed-out-again : (v : ℕ) → v < s .m → (h : Heap) → Inv s h → step s (New v) h .answer .status ≡ 0 → Handed v (forNew s h) (step s (New v) h .heap)
-  unfolding step check run doNew
-  handed-out-again v i h g e = go (noneFree s (forNew s h)) refl e
+  pub handed-out-again : (v : ℕ) → v < s .m → (h : Heap) → Inv s h → step s (New v) h .answer .status ≡ 0 → Handed v (settledFor s (New v) h) (step s (New v) h .heap)
+  unfolding step run acted doNew
+  handed-out-again v i h g e = go (noneFree s (settledFor s (New v) h)) refl e
     where
-      out : Bool → Stepped
-      out q = cond q (refused (forNew s h) 14) (done (takeCell v (forNew s h)) (pos 0))
-
-      go : (q : Bool) → noneFree s (forNew s h) ≡ q → out q .answer .status ≡ 0 → Handed v (forNew s h) (out q .heap)
+      go : (q : Bool) → noneFree s (settledFor s (New v) h) ≡ q → doNew q v (settledFor s (New v) h) .answer .status ≡ 0 → Handed v (settledFor s (New v) h) (doNew q v (settledFor s (New v) h) .heap)
       go true d e = absurd (omega arith)
-      go false d e = handed v i (forNew s h) (settledIf-inv s ok (full s 1 h || noneFree s h) h g .0) d
+      go false d e = handed v i (settledFor s (New v) h) (for-inv s ok (New v) h g) d

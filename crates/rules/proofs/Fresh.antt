@@ -14,7 +14,7 @@ use Rattle.rules.specs.Rules.{replay}
 use Rattle.rules.specs.Settle.{holds, place, field}
 use Rattle.rules.specs.Step.{fresh, freeFrom}
 use Rattle.rules.specs.Sound.{times}
-use Rattle.rules.proofs.Invariant.{refs, used, live, view, Chain, Fitting, Inv, Ended}
+use Rattle.rules.specs.Invariant.{refs, used, live, view, Chain, Fitting, Inv, Ended}
 
 -- the fields of a fresh heap, by their place: i is 2 * b or 2 * b + 1
 pub fresh-len : (a k : ℕ) → length (freeFrom a k) ≡ 2 * k

@@ -1,7 +1,6 @@
 -- From the tables up to the demands.
 pub mod Against
 pub mod Answers
-pub mod Invariant
 pub mod Tests
 pub mod Tables
 pub mod Exact

@@ -21,7 +21,7 @@ use Rattle.rules.specs.Rows.{Lent, words, rowsOf, headOf, fieldsOf, entr
 use Rattle.rules.specs.Sound.{Word, Variable, ZeroFrom, Sound, Sized}
 use Rattle.rules.specs.Refusals.{cleared}
 use Rattle.rules.proofs.Positions.{half}
-use Rattle.rules.proofs.Invariant.{Chain, Inv, Ended}
+use Rattle.rules.specs.Invariant.{Chain, Inv, Ended}
 use Rattle.rules.specs.Head.{Limits}
 
 -- ---- written down and read back

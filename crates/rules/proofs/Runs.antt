@@ -10,15 +10,14 @@ use lib.IntN.{ℤ}
 use lib.ListN.{length}
 use Rattle.rules.specs.declared.Call.{Call}
 use Rattle.rules.specs.declared.Sizes.{Sizes}
-use Rattle.rules.specs.Head.{freshHead, zeroHead}
+use Rattle.rules.specs.Head.{freshHead, zeroHead, Limits}
 use Rattle.rules.specs.Settle.{Heap}
 use Rattle.rules.specs.Call.{callsIn}
 use Rattle.rules.specs.Step.{batch, fresh}
 use Rattle.rules.specs.Rows.{Lent, rowsOf, headOf}
 use Rattle.rules.specs.Refusals.{After, Batched, outcome, leaves, leavesWith, isSized, answered, accepted, checkSound, checkAnswers, checkCalls, freshOf, batchOf}
 use Rattle.rules.specs.Run.{ours, Batch, runFrom}
-use Rattle.rules.proofs.Invariant.{Ended}
-use Rattle.rules.specs.Head.{Limits}
+use Rattle.rules.specs.Invariant.{Ended}
 use Rattle.rules.proofs.Tests.{true-sized, true-sound}
 use Rattle.rules.proofs.Calls.{calls-in-fit}
 use Rattle.rules.proofs.Step.{batch-ended}
@@ -44,7 +43,7 @@ in-run s F h E ws row = rw (true-sized (headOf s h) (rowsOf s h) (sized-of-ended
     go (some cs) = rw (true-sound (headOf s h) (rowsOf s h) (ended-sound s F h E), batch-of-ended cs E)
 
 pub in-run-ended : (s : Sizes) → Limits s → (h : Heap) → Ended s h → (ws : List ℤ) (cs : List Call) → callsIn (s .m) ws ≡ some cs → Ended s (batch s cs h .heap)
-in-run-ended s F h E ws cs e = batch-ended s F cs h (E .inv) (calls-in-fit s ws cs e)
+in-run-ended s F h E ws cs e = batch-ended s F cs h (E .inv) (calls-in-fit (s .m) ws cs e)
 
 -- the sizes of an accepted fresh call are fine
 pub limits-fresh : (s : Sizes) (r : Lent) → freshOf s r .outcome .status ≡ 0 → Limits s

@@ -1,8 +1,9 @@
 -- A heap against the endless heap: the same answers, through a renaming of the cells in use. Assumes nothing.
 use Prim.Native.Nat.{ℕ, zero, suc, _*_, _<_}
+use Prim.Native.Nat.{ℕ, zero, suc, _+_, _-_, _*_, _<_}
 use mathlib.Core.Path.{_≡_, refl, sym, ap, ap₂, _∙_}
 use mathlib.Core.Logic.{_⊎_, inl, inr}
-use mathlib.Core.Bool.{Bool, true, false, _||_, or-true, cond, true≢false}
+use mathlib.Core.Bool.{Bool, true, false, or-true, cond, true≢false}
 use mathlib.Core.Option.{Option, none, some}
 use mathlib.Core.List.{List, [], _∷_, _++_, map}
 use native.Mathlib.Omega.{arith}
@@ -13,25 +14,28 @@ use lib.Seq.{getD-append-add}
 use borrow.Author.Tests.{eqb-true, eqb-false, eq-eqb, ne-eqb}
 use Rattle.rules.specs.declared.Field.{Field}
 use Rattle.rules.specs.declared.Field.the-variants.{Nothing, Figure, Cell, Free}
+use Rattle.rules.specs.declared.Deed.{Deed}
+use Rattle.rules.specs.declared.Deed.the-variants.{Copy, Clear, Link, Put, Blank, Follow, Read, Same}
 use Rattle.rules.specs.declared.Call.{Call}
-use Rattle.rules.specs.declared.Call.the-variants.{New, Copy, Clear, Link, Put, Blank, Follow, Read, Same, Settle}
+use Rattle.rules.specs.declared.Call.the-variants.{New, Do, Settle}
 use Rattle.rules.specs.declared.Sizes.{Sizes}
 use Rattle.rules.specs.Rules.{Tables, replay}
 use Rattle.rules.specs.Table.{has}
 use Rattle.rules.specs.Settle.{Shape, Heap, holds, place, field, store, freeCell, replayed, settledBy, settled}
-use Rattle.rules.specs.Call.{var, at, isHeld, isCell, isFigure, want, check, logs, write, hold, toCell, target, act, figureOf, sameCell, value, answer}
-use Rattle.rules.specs.Step.{Stepped, done, refused, settledIf, full, noneFree, takeCell, doNew, doSettle, doCall, room, run, step, fresh}
-use Rattle.rules.specs.Endless.{Endless, endless, EndlessStep, endlessRun, endlessStep}
+use Rattle.rules.specs.Call.{var, at, isHeld, isCell, isFigure, want, check, write, hold, toCell, target, act, figureOf, sameCell, value, answer, Fits, InRange, unless, refuses}
+use Rattle.rules.specs.Step.{Stepped, refused, settledIf, noneFree, takeCell, doNew, run, step, fresh, wants, settledFor, doDeed, acted}
+use Rattle.rules.specs.Endless.{Endless, endless, EndlessStep, endlessRun, endlessStep, says}
 use Rattle.rules.specs.Run.{NotSettle}
 use Rattle.rules.specs.Head.{Limits}
-use Rattle.rules.proofs.Invariant.{used, live, Good, Inv}
+use Rattle.rules.specs.Invariant.{used, live, Good, Inv}
 use Rattle.rules.proofs.Tables.{eqb-self}
 use Rattle.rules.proofs.Cells.{place-in, cell-live, live-store-0, length-store, field-other, field-same, field-across}
 use Rattle.rules.proofs.Turn.{turn-field, turn-stays}
 use Rattle.rules.proofs.Reclaim.{reclaim-keeps}
 use Rattle.rules.proofs.FreeList.{Taken}
-use Rattle.rules.proofs.Calls.{Fits, held-11, two-11, toCell-used, var-live, store-live}
-use Rattle.rules.proofs.Step.{settledIf-inv, taken}
+use Rattle.rules.proofs.Calls.{held-11, two-11, toCell-used, var-live, store-live}
+use Rattle.rules.proofs.Step.{taken, for-inv, for-right}
+use Rattle.rules.proofs.Facts.{call-refused}
 use Rattle.rules.proofs.Fresh.{dead}
 
 abbrev pub ren : (ℕ → ℕ) → Option ℕ → Option ℕ
@@ -56,25 +60,12 @@ map-set f [] i x = refl
 map-set f (y ∷ l) zero x = refl
 map-set f (y ∷ l) (suc i) x = ap (λ t. f y ∷ t) (map-set f l i x)
 
-abbrev NotNew : Call → Type 0
-NotNew (New v) = ⊥
-NotNew (Copy v w) = Unit {0}
-NotNew (Clear v) = Unit {0}
-NotNew (Link v f w) = Unit {0}
-NotNew (Put v f x) = Unit {0}
-NotNew (Blank v f) = Unit {0}
-NotNew (Follow v f w) = Unit {0}
-NotNew (Read v f) = Unit {0}
-NotNew (Same v w) = Unit {0}
-NotNew Settle = Unit {0}
-
 module _ (s : Sizes) (ok : Limits s) (h : Shape) (t : Tables) (g : Good (s .n) (s .cap) (h .fields) (h .variables) t) (ρ : ℕ → ℕ) (e : Endless) (R : Sim ρ h e) where
   var-ren : (v : ℕ) → var (e .shape) v ≡ ren ρ (var h v)
   unfolding var
   var-ren v = rw (R .vars) (List·getD-map (ren ρ) (h .variables) v none)
 
   held-ren : (o : Option ℕ) → isHeld (ren ρ o) ≡ isHeld o
-  unfolding isHeld
   held-ren none = refl
   held-ren (some a) = refl
 
@@ -93,34 +84,29 @@ module _ (s : Sizes) (ok : Limits s) (h : Shape) (t : Tables) (g : Good (s .n) (
       go (some a) d = R .cells a f (var-live s ok h t g v a d) k
 
   cell-ren : (x : Field) → isCell (renF ρ x) ≡ isCell x
-  unfolding isCell
   cell-ren Nothing = refl
   cell-ren (Figure x) = refl
   cell-ren (Cell a) = refl
   cell-ren (Free a) = refl
 
   figure-ren : (x : Field) → (isFigure (renF ρ x) ≡ isFigure x) × (figureOf (renF ρ x) ≡ figureOf x)
-  unfolding isFigure figureOf
   figure-ren Nothing = (refl, refl)
   figure-ren (Figure x) = (refl, refl)
   figure-ren (Cell a) = (refl, refl)
   figure-ren (Free a) = (refl, refl)
 
-  check-same : (c : Call) → Fits s c → check c (e .shape) ≡ check c h
-  unfolding check
-  check-same (New v) f = refl
-  check-same (Copy v w) f = refl
-  check-same (Clear v) f = refl
-  check-same (Link v f w) k = rw (held-same v, held-same w)
-  check-same (Put v f x) k = rw (held-same v)
-  check-same (Blank v f) k = rw (held-same v)
-  check-same (Follow v f w) k = rw (held-same v, at-ren v f (k .0), cell-ren (at h v f))
-  check-same (Read v f) k = rw (held-same v, at-ren v f (k .0), figure-ren (at h v f) .0)
-  check-same (Same v w) f = rw (held-same v, held-same w)
-  check-same Settle f = refl
+  refuses-same : (d : Deed) → InRange (s .m) d → refuses d (e .shape) ≡ refuses d h
+  unfolding refuses
+  refuses-same (Copy v w) f = refl
+  refuses-same (Clear v) f = refl
+  refuses-same (Link v f w) k = rw (held-same v, held-same w)
+  refuses-same (Put v f x) k = rw (held-same v)
+  refuses-same (Blank v f) k = rw (held-same v)
+  refuses-same (Follow v f w) k = rw (held-same v, at-ren v f (k .1), cell-ren (at h v f))
+  refuses-same (Read v f) k = rw (held-same v, at-ren v f (k .1), figure-ren (at h v f) .0)
+  refuses-same (Same v w) f = rw (held-same v, held-same w)
 
   same-ren : (v w : ℕ) → sameCell (var (e .shape) v) (var (e .shape) w) ≡ sameCell (var h v) (var h w)
-  unfolding sameCell
   same-ren v w = rw (var-ren v, var-ren w) (go (var h v) (var h w) refl refl)
     where
       go : (o p : Option ℕ) → var h v ≡ o → var h w ≡ p → sameCell (ren ρ o) (ren ρ p) ≡ sameCell o p
@@ -132,20 +118,23 @@ module _ (s : Sizes) (ok : Limits s) (h : Shape) (t : Tables) (g : Good (s .n) (
           at true m = eq-eqb (ρ a) (ρ b) (ap ρ (eqb-true a b m))
           at false m = ne-eqb (ρ a) (ρ b) (λ i. eqb-false a b m (R .inj a b (var-live s ok h t g v a d) (var-live s ok h t g w b d′) i))
 
-  value-same : (c : Call) → Fits s c → value c (e .shape) ≡ value c h
+  value-same : (d : Deed) → InRange (s .m) d → value d (e .shape) ≡ value d h
   unfolding value
-  value-same (New v) f = refl
   value-same (Copy v w) f = refl
   value-same (Clear v) f = refl
   value-same (Link v f w) k = refl
   value-same (Put v f x) k = refl
   value-same (Blank v f) k = refl
   value-same (Follow v f w) k = refl
-  value-same (Read v f) k = rw (at-ren v f (k .0), figure-ren (at h v f) .1)
+  value-same (Read v f) k = rw (at-ren v f (k .1), figure-ren (at h v f) .1)
   value-same (Same v w) f = rw (same-ren v w)
-  value-same Settle f = refl
 
-  -- ---- what the calls do
+  check-same : (c : Call) → Fits (s .m) c → check c (e .shape) ≡ check c h
+  check-same (New v) f = refl
+  check-same (Do d) f = refuses-same d f
+  check-same Settle f = refl
+
+  -- ---- what the deeds do
 
   sim-hold : (v : ℕ) (o o′ : Option ℕ) → o′ ≡ ren ρ o → Sim ρ (hold h v o) (record { shape = hold (e .shape) v o′; next = e .next })
   unfolding hold
@@ -194,31 +183,27 @@ module _ (s : Sizes) (ok : Limits s) (h : Shape) (t : Tables) (g : Good (s .n) (
       rw (w .1, w′, write) (sim-store (w .0) f x x′ k (var-live s ok h t g v (w .0) (w .1)) u p)
 
   toCell-ren : (o : Option ℕ) → toCell (ren ρ o) ≡ renF ρ (toCell o)
-  unfolding toCell
   toCell-ren none = refl
   toCell-ren (some a) = refl
 
   target-ren : (x : Field) → target (renF ρ x) ≡ ren ρ (target x)
-  unfolding target
   target-ren Nothing = refl
   target-ren (Figure x) = refl
   target-ren (Cell a) = refl
   target-ren (Free a) = refl
 
-  sim-act : (c : Call) → NotNew c → Fits s c → check c h ≡ 0 → Sim ρ (act c h) (endlessRun c e)
-  unfolding act endlessRun check
-  sim-act (New v) nn f d = absurd nn
-  sim-act (Copy v w) nn f d = sim-hold v (var h w) (var (e .shape) w) (var-ren w)
-  sim-act (Clear v) nn f d = sim-hold v none none refl
-  sim-act (Link v f w) nn k d =
+  sim-act : (d : Deed) → InRange (s .m) d → refuses d h ≡ 0 → Sim ρ (act d h) (record { shape = act d (e .shape); next = e .next })
+  unfolding act refuses
+  sim-act (Copy v w) f d = sim-hold v (var h w) (var (e .shape) w) (var-ren w)
+  sim-act (Clear v) f d = sim-hold v none none refl
+  sim-act (Link v f w) k d =
       let p = two-11 (isHeld (var h v)) (isHeld (var h w)) d in
-      sim-write v f (toCell (var h w)) (toCell (var (e .shape) w)) (k .0) (p .0) (toCell-used (var h w)) (ap toCell (var-ren w) ∙ toCell-ren (var h w))
-  sim-act (Put v f x) nn k d = sim-write v f (Figure x) (Figure x) (k .0) d refl refl
-  sim-act (Blank v f) nn k d = sim-write v f Nothing Nothing (k .0) d refl refl
-  sim-act (Follow v f w) nn k d = sim-hold w (target (at h v f)) (target (at (e .shape) v f)) (ap target (at-ren v f (k .0)) ∙ target-ren (at h v f))
-  sim-act (Read v f) nn k d = R
-  sim-act (Same v w) nn f d = R
-  sim-act Settle nn f d = R
+      sim-write v f (toCell (var h w)) (toCell (var (e .shape) w)) (k .1) (p .0) (toCell-used (var h w)) (ap toCell (var-ren w) ∙ toCell-ren (var h w))
+  sim-act (Put v f x) k d = sim-write v f (Figure x) (Figure x) (k .1) d refl refl
+  sim-act (Blank v f) k d = sim-write v f Nothing Nothing (k .1) d refl refl
+  sim-act (Follow v f w) k d = sim-hold w (target (at h v f)) (target (at (e .shape) v f)) (ap target (at-ren v f (k .1)) ∙ target-ren (at h v f))
+  sim-act (Read v f) k d = R
+  sim-act (Same v w) f d = R
 
 -- fewer cells in use, with the fields that they had
 sim-less : (ρ : ℕ → ℕ) (h h′ : Shape) (e : Endless) → h′ .variables ≡ h .variables → ((b : ℕ) → live (h′ .fields) b ≡ true → live (h .fields) b ≡ true)
@@ -299,7 +284,7 @@ module _ (s : Sizes) (ok : Limits s) (h : Heap) (g : Inv s h) (d : noneFree s h 
       go true i m = inl (eqb-true b (h .first) i)
       go false i m = inr m
 
-  sim-take : (v : ℕ) → Sim extend (takeCell v h .shape) (endlessRun (New v) e)
+  sim-take : (v : ℕ) → Sim extend (takeCell v h .shape) (endlessRun (New v) e .heap)
   unfolding takeCell hold endlessRun place
   sim-take v =
       record {
@@ -348,107 +333,53 @@ pub record Agree (c : Call) (o : Stepped) (p : EndlessStep) : Type 0 where
   pub value-same′ : NotSettle c → o .answer .value ≡ p .answer .value
   pub renamed : (ρ : ℕ → ℕ) × Sim ρ (o .heap .shape) (p .heap)
 
--- a call that passed 11 to 13
-abbrev went : Call → Endless → EndlessStep
-went c e = record { heap = endlessRun c e; answer = answer 0 (value c (e .shape)) }
-
 module _ (s : Sizes) (ok : Limits s) where
-  sim-if : (b : Bool) (h : Heap) → Inv s h → (ρ : ℕ → ℕ) (e : Endless) → Sim ρ (h .shape) e → Sim ρ (settledIf b s h .shape) e
-  unfolding settledIf
-  sim-if true h g ρ e R = sim-settled s ok h g ρ e R
-  sim-if false h g ρ e R = R
+  sim-for : (c : Call) (h : Heap) → Inv s h → (ρ : ℕ → ℕ) (e : Endless) → Sim ρ (h .shape) e → Sim ρ (settledFor s c h .shape) e
+  unfolding settledIf settled
+  sim-for c h g ρ e R = go (wants s c h)
+    where
+      go : (b : Bool) → Sim ρ (settledIf b s (h .shape .variables) h .shape) e
+      go true = sim-settled s ok h g ρ e R
+      go false = R
 
-  did : (c : Call) → NotNew c → (h : Heap) → Inv s h → Fits s c → check c (h .shape) ≡ 0 → (ρ : ℕ → ℕ) (e : Endless) → Sim ρ (h .shape) e
-      → Agree c (doCall c h) (went c e)
-  unfolding doCall
-  did c nn h g f d ρ e R =
+  -- a call after its settle
+  did : (c : Call) (k : ℕ) (h : Heap) → Inv s h → Fits (s .m) c → check c (h .shape) ≡ 0 → (ρ : ℕ → ℕ) (e : Endless) → Sim ρ (h .shape) e
+      → ¬ (acted s c k h .answer .status ≡ 14) → Agree c (acted s c k h) (endlessRun c e)
+  unfolding acted doNew doDeed endlessRun
+  did (New v) k h g f d ρ e R n = go (noneFree s h) refl n
+    where
+      go : (q : Bool) → noneFree s h ≡ q → ¬ (doNew q v h .answer .status ≡ 14) → Agree (New v) (doNew q v h) (endlessRun (New v) e)
+      go true i n = absurd (n refl)
+      go false i n = record { status-same = refl; value-same′ = λ k. refl; renamed = (extend s ok h g i ρ e R, sim-take s ok h g i ρ e R v) }
+  did (Do a) k h g f d ρ e R n =
       let t = replay (s .cap) (h .log) (h .tables) in
       record {
         status-same = refl;
-        value-same′ = λ k. sym (value-same s ok (h .shape) t (g .good) ρ e R c f);
-        renamed = (ρ, sim-act s ok (h .shape) t (g .good) ρ e R c nn f d);
+        value-same′ = λ k. sym (value-same s ok (h .shape) t (g .good) ρ e R a f);
+        renamed = (ρ, sim-act s ok (h .shape) t (g .good) ρ e R a f d);
       }
+  did Settle k h g f d ρ e R n = record { status-same = refl; value-same′ = λ k. absurd k; renamed = (ρ, R) }
 
-  did-room : (c : Call) → NotNew c → (h : Heap) → Inv s h → Fits s c → check c (h .shape) ≡ 0 → ((a b : Shape) → a .variables ≡ b .variables → check c a ≡ check c b) → (ρ : ℕ → ℕ) (e : Endless) → Sim ρ (h .shape) e
-      → Agree c (doCall c (room s c h)) (went c e)
-  unfolding room
-  did-room c nn h g f d p ρ e R =
-      let b = full s (length (logs c (h .shape))) h in
-      let r = settledIf-inv s ok b h g in
-      did c nn (settledIf b s h) (r .0) f (p (settledIf b s h .shape) (h .shape) (r .1) ∙ d) ρ e (sim-if b h g ρ e R)
+  ran : (c : Call) (h : Heap) → Inv s h → Fits (s .m) c → check c (h .shape) ≡ 0 → (ρ : ℕ → ℕ) (e : Endless) → Sim ρ (h .shape) e → ¬ (run s c h .answer .status ≡ 14) → Agree c (run s c h) (endlessRun c e)
+  unfolding run
+  ran c h g f d ρ e R n = let k = settledFor s c h in did c (k .freed - h .freed) k (for-inv s ok c h g) f (for-right s ok c h g d) ρ e (sim-for c h g ρ e R) n
 
-  ran : (c : Call) (h : Heap) → Inv s h → Fits s c → check c (h .shape) ≡ 0 → (ρ : ℕ → ℕ) (e : Endless) → Sim ρ (h .shape) e → ¬ (run s c h .answer .status ≡ 14) → Agree c (run s c h) (went c e)
-  unfolding run doNew doSettle check var value endlessRun
-  ran (New v) h g f d ρ e R n14 = go (full s 1 h || noneFree s h) n14
-    where
-      go : (b : Bool) → (¬ (doNew s v (settledIf b s h) .answer .status ≡ 14)) → Agree (New v) (doNew s v (settledIf b s h)) (went (New v) e)
-      go b n14 = at (noneFree s (settledIf b s h)) refl n14
-        where
-          k : Heap
-          k = settledIf b s h
-
-          at : (q : Bool) → noneFree s k ≡ q → (¬ ((cond q (refused k 14) (done (takeCell v k) (pos 0))) .answer .status ≡ 14))
-              → Agree (New v) (cond q (refused k 14) (done (takeCell v k) (pos 0))) (went (New v) e)
-          at true i n = absurd (n refl)
-          at false i n =
-              let R′ = sim-if b h g ρ e R in
-              let g′ = settledIf-inv s ok b h g .0 in
-              record { status-same = refl; value-same′ = λ k. refl; renamed = (extend s ok k g′ i ρ e R′, sim-take s ok k g′ i ρ e R′ v) }
-  ran (Copy v w) h g f d ρ e R n = did (Copy v w) tt h g f d ρ e R
-  ran (Clear v) h g f d ρ e R n = did (Clear v) tt h g f d ρ e R
-  ran (Link v f w) h g k d ρ e R n = did-room (Link v f w) tt h g k d (λ a b p. rw p) ρ e R
-  ran (Put v f x) h g k d ρ e R n = did-room (Put v f x) tt h g k d (λ a b p. rw p) ρ e R
-  ran (Blank v f) h g k d ρ e R n = did-room (Blank v f) tt h g k d (λ a b p. rw p) ρ e R
-  ran (Follow v f w) h g k d ρ e R n = did (Follow v f w) tt h g k d ρ e R
-  ran (Read v f) h g k d ρ e R n = did (Read v f) tt h g k d ρ e R
-  ran (Same v w) h g f d ρ e R n = did (Same v w) tt h g f d ρ e R
-  ran Settle h g f d ρ e R n = record { status-same = refl; value-same′ = λ k. absurd k; renamed = (ρ, sim-settled s ok h g ρ e R) }
-
-  pub step-agrees : (c : Call) (h : Heap) → Inv s h → Fits s c → (ρ : ℕ → ℕ) (e : Endless) → Sim ρ (h .shape) e → ¬ (step s c h .answer .status ≡ 14) → Agree c (step s c h) (endlessStep c e)
+  pub step-agrees : (c : Call) (h : Heap) → Inv s h → Fits (s .m) c → (ρ : ℕ → ℕ) (e : Endless) → Sim ρ (h .shape) e → ¬ (step s c h .answer .status ≡ 14) → Agree c (step s c h) (endlessStep c e)
   unfolding step endlessStep
-  step-agrees c h g f ρ e R n = rw (check-same s ok (h .shape) (replay (s .cap) (h .log) (h .tables)) (g .good) ρ e R c f, endlessStep) (go (check c (h .shape)) refl n)
+  step-agrees c h g f ρ e R n = rw (check-same s ok (h .shape) (replay (s .cap) (h .log) (h .tables)) (g .good) ρ e R c f) (go (check c (h .shape)) refl n)
     where
-      mine : ℕ → Stepped
-      mine k = elim k [ zero ↦ run s c h | suc j ↦ refused h (suc j) ]
-
-      its : ℕ → EndlessStep
-      its k = elim k [ zero ↦ went c e | suc j ↦ record { heap = e; answer = answer (suc j) (pos 0) } ]
-
-      go : (k : ℕ) → check c (h .shape) ≡ k → (¬ (mine k .answer .status ≡ 14)) → Agree c (mine k) (its k)
+      go : (k : ℕ) → check c (h .shape) ≡ k → ¬ (unless k (refused h) (run s c h) .answer .status ≡ 14) → Agree c (unless k (refused h) (run s c h)) (unless k (λ j. says e j (pos 0)) (endlessRun c e))
       go zero d n = ran c h g f d ρ e R n
       go (suc j) d n = record { status-same = refl; value-same′ = λ k. refl; renamed = (ρ, R) }
 
   -- a new answered 14 leaves the endless heap as it was: its settle only frees cells
-  ran-14 : (c : Call) (h : Heap) → Inv s h → (ρ : ℕ → ℕ) (e : Endless) → Sim ρ (h .shape) e → run s c h .answer .status ≡ 14 → Sim ρ (run s c h .heap .shape) e
-  unfolding run doNew doSettle doCall
-  ran-14 (New v) h g ρ e R i = at (noneFree s k) i
-    where
-      k : Heap
-      k = settledIf (full s 1 h || noneFree s h) s h
-
-      at : (q : Bool) → (cond q (refused k 14) (done (takeCell v k) (pos 0))) .answer .status ≡ 14 → Sim ρ ((cond q (refused k 14) (done (takeCell v k) (pos 0))) .heap .shape) e
-      at true i = sim-if (full s 1 h || noneFree s h) h g ρ e R
-      at false i = absurd (omega arith)
-  ran-14 (Copy v w) h g ρ e R i = absurd (omega arith)
-  ran-14 (Clear v) h g ρ e R i = absurd (omega arith)
-  ran-14 (Link v f w) h g ρ e R i = absurd (omega arith)
-  ran-14 (Put v f x) h g ρ e R i = absurd (omega arith)
-  ran-14 (Blank v f) h g ρ e R i = absurd (omega arith)
-  ran-14 (Follow v f w) h g ρ e R i = absurd (omega arith)
-  ran-14 (Read v f) h g ρ e R i = absurd (omega arith)
-  ran-14 (Same v w) h g ρ e R i = absurd (omega arith)
-  ran-14 Settle h g ρ e R i = absurd (omega arith)
-
   pub step-14 : (c : Call) (h : Heap) → Inv s h → (ρ : ℕ → ℕ) (e : Endless) → Sim ρ (h .shape) e → step s c h .answer .status ≡ 14 → Sim ρ (step s c h .heap .shape) e
-  unfolding step
-  step-14 c h g ρ e R i = go (check c (h .shape)) i
+  unfolding settled
+  step-14 c h g ρ e R i = go (call-refused s c h 13 i .1)
     where
-      mine : ℕ → Stepped
-      mine k = elim k [ zero ↦ run s c h | suc j ↦ refused h (suc j) ]
-
-      go : (k : ℕ) → mine k .answer .status ≡ 14 → Sim ρ (mine k .heap .shape) e
-      go zero i = ran-14 c h g ρ e R i
-      go (suc j) i = R
+      go : {A B : Type 0} → (A × (step s c h .heap ≡ h)) ⊎ (B × (step s c h .heap ≡ settled s h)) → Sim ρ (step s c h .heap .shape) e
+      go (inl p) = rw (p .1) R
+      go (inr p) = rw (p .1) (sim-settled s ok h g ρ e R)
 
 -- a fresh heap against an endless heap with nothing in it
 pub fresh-sim : (s : Sizes) → Sim (λ a. a) (fresh s .shape) (endless (s .m))

@@ -9,7 +9,7 @@ use borrow.Author.Tests.{eqb-true, eqb-false, ltb-true, ltb-false}
 use Rattle.rules.specs.Table.{Entry, entry, has, insert, remove, countIn, enter, delete, addresses, counts, All, Ascending}
 use Rattle.rules.specs.Rules.{Tables, Transaction, allocates, creates, destroys, enterZct, leaveZct, enterMrt, leaveMrt, onCreate, onDestroy, apply, replay}
 use Rattle.rules.specs.Whole.{Kept}
-use Rattle.rules.proofs.Invariant.{named, Small}
+use Rattle.rules.specs.Invariant.{named, Small}
 
 -- ---- every entry has P
 

@@ -1,37 +1,34 @@
 -- A call, a settle and a batch keep a heap's invariant; a batch ends settled. Assumes nothing.
-use Prim.Native.Nat.{ℕ, zero, suc, _+_, _<_, _≤_}
+use Prim.Native.Nat.{ℕ, zero, suc, _+_, _-_, _<_, _≤_}
 use mathlib.Core.Path.{_≡_, refl, sym, ap, _∙_}
 use mathlib.Core.Logic.{_⊎_, inl, inr}
-use mathlib.Core.Bool.{Bool, true, false, _||_, cond, true≢false}
+use mathlib.Core.Bool.{Bool, true, false, cond, true≢false}
 use mathlib.Core.Option.{Option, some}
 use mathlib.Core.List.{List, [], _∷_}
 use native.Mathlib.Omega.{arith}
 use lib.Dec.{eqb}
-use lib.IntN.{pos}
 use lib.ListN.{length, length-set, length-append}
-use borrow.Author.Tests.{eqb-true, eqb-false, ltb-false}
+use borrow.Author.Tests.{eqb-true, eqb-false, ltb-false, le-ltb}
 use Rattle.rules.specs.declared.Field.the-variants.{Nothing}
+use Rattle.rules.specs.declared.Deed.{Deed}
+use Rattle.rules.specs.declared.Deed.the-variants.{Copy, Clear, Link, Put, Blank, Follow, Read, Same}
 use Rattle.rules.specs.declared.Call.{Call}
-use Rattle.rules.specs.declared.Call.the-variants.{New, Copy, Clear, Link, Put, Blank, Follow, Read, Same, Settle}
+use Rattle.rules.specs.declared.Call.the-variants.{New, Do, Settle}
 use Rattle.rules.specs.declared.Sizes.{Sizes}
 use Rattle.rules.specs.Rules.{Tables, allocates, apply, replay}
 use Rattle.rules.specs.Settle.{Shape, Heap, holds, place, store, freeCell, replayed, settledBy, settled}
-use Rattle.rules.specs.Call.{var, check, logs, hold}
-use Rattle.rules.specs.Step.{Stepped, done, refused, settledIf, full, noneFree, takeCell, doNew, doSettle, doCall, room, run, step, calls, batch}
+use Rattle.rules.specs.Call.{var, check, logs, hold, Fits, AllFit, InRange, unless, refuses}
+use Rattle.rules.specs.Step.{refused, settledIf, full, noneFree, takeCell, doNew, run, step, calls, batch, needs, wants, settledFor, doDeed, acted, unfreed}
 use Rattle.rules.specs.Whole.{Kept}
 use Rattle.rules.proofs.Tests.{not-first}
 use Rattle.rules.specs.Head.{Limits}
-use Rattle.rules.proofs.Invariant.{refs, live, view, Counted, Good, Frees, Small, Inv, Done, Ended}
+use Rattle.rules.specs.Invariant.{refs, live, view, Counted, Good, Frees, Small, Inv, Done, Ended}
 use Rattle.rules.proofs.Tables.{view-own, view-other, change}
 use Rattle.rules.proofs.Sorted.{replay-kept, small-append, replay-append}
 use Rattle.rules.proofs.Cells.{live-store-0, refs-store, length-store, lives, lives-le, Plain1, Figures, plain-store, plain-store-0, figures-store}
 use Rattle.rules.proofs.Reclaim.{reclaim-good, reclaim-done, reclaim-leaves, reclaim-sum, reclaim-plain, reclaim-figures, reclaim-kept}
 use Rattle.rules.proofs.FreeList.{Taken, frees-store, frees-take, reclaim-frees}
-use Rattle.rules.proofs.Calls.{Fits, AllFit, holds-set, call-good, act-keeps, act-variables, logs-small, logs-long, store-live}
-
--- a call's check looks at the variables alone
-abbrev pub SameCheck : Call → Type 0
-SameCheck c = (a b : Shape) → a .variables ≡ b .variables → check c a ≡ check c b
+use Rattle.rules.proofs.Calls.{holds-set, deed-good, act-keeps, act-variables, logs-small, logs-long, store-live}
 
 -- ---- a settle that counts any holds
 
@@ -43,6 +40,11 @@ module _ (s : Sizes) (hs : List (Option ℕ)) (h : Heap) where
   pub settledBy-variables : settledBy s hs h .shape .variables ≡ h .shape .variables
   unfolding settledBy replayed freeCell
   settledBy-variables = reclaim-leaves (λ (x : Heap). x .shape .variables) (s .cap) hs (λ a x. refl) (s .n) (replayed (s .cap) h)
+
+pub settledIf-variables : (b : Bool) (s : Sizes) (hs : List (Option ℕ)) (h : Heap) → settledIf b s hs h .shape .variables ≡ h .shape .variables
+unfolding settledIf
+settledIf-variables true s hs h = settledBy-variables s hs h
+settledIf-variables false s hs h = refl
 
 module _ (s : Sizes) (ok : Limits s) (hs : List (Option ℕ)) (h : Heap)
     (g : Good (s .n) (s .cap) (h .shape .fields) hs (replay (s .cap) (h .log) (h .tables))) where
@@ -104,38 +106,80 @@ module _ (s : Sizes) (ok : Limits s) where
   pub settle-sound : (h : Heap) → Inv s h → Ended s (settled s h)
   settle-sound h g = let d = settled-done h g in record { inv = settled-inv h g; settled-all = rw (d .1 .1) (d .0); log-empty = d .1 .0 }
 
-  pub settledIf-inv : (b : Bool) (h : Heap) → Inv s h → (Inv s (settledIf b s h)) × (settledIf b s h .shape .variables ≡ h .shape .variables)
-  unfolding settledIf
-  settledIf-inv true h g = (settled-inv h g, settled-done h g .1 .1)
-  settledIf-inv false h g = (g, refl)
+  -- ---- the settle before a call
 
-  -- where there is no settle there was room for k entries; at most two are wanted
-  pub settledIf-room : (b : Bool) (k j : ℕ) (h : Heap) → Inv s h → (b ≡ false → full s k h ≡ false) → j ≤ 2 → (b ≡ false → j ≤ k) → length (settledIf b s h .log) + j ≤ s .l
+  pub settledIf-inv : (b : Bool) (h : Heap) → Inv s h → Inv s (settledIf b s (h .shape .variables) h)
+  unfolding settledIf settled
+  settledIf-inv true h g = settled-inv h g
+  settledIf-inv false h g = g
+
+  pub for-inv : (c : Call) (h : Heap) → Inv s h → Inv s (settledFor s c h)
+  for-inv c h g = settledIf-inv (wants s c h) h g
+
+  -- where no settle is wanted there is room
+  room-now : (c : Call) (h : Heap) → wants s c h ≡ false → full s (needs c (h .shape)) h ≡ false
+  unfolding wants
+  room-now (New v) h e = not-first _ _ e
+  room-now (Do d) h e = e
+  room-now Settle h e = absurd (true≢false e)
+
+  pub needs-two : (c : Call) (sh : Shape) → needs c sh ≤ 2
+  needs-two (New v) sh = omega arith
+  needs-two (Do d) sh = logs-long d sh
+  needs-two Settle sh = omega arith
+
+  -- the log has room for a call's entries
+  pub for-room : (c : Call) (h : Heap) → Inv s h → length (settledFor s c h .log) + needs c (settledFor s c h .shape) ≤ s .l
   unfolding settledIf full
-  settledIf-room true k j h g f i e = let o = ok .l-least in rw (settled-done h g .1 .0) (omega arith)
-  settledIf-room false k j h g f i e = let r = ltb-false (s .l) (length (h .log) + k) (f refl) in let o = e refl in omega arith
+  for-room c h g = go (wants s c h) refl
+    where
+      hs : List (Option ℕ)
+      hs = h .shape .variables
 
-  -- ---- the calls but new and settle
+      go : (b : Bool) → wants s c h ≡ b → length (settledIf b s hs h .log) + needs c (settledIf b s hs h .shape) ≤ s .l
+      go true e = let l = ok .l-least in let k = needs-two c (settledBy s hs h .shape) in rw (settledBy-log s hs h) (omega arith)
+      go false e = ltb-false (s .l) (length (h .log) + needs c (h .shape)) (room-now c h e)
+
+  -- before a deed that needs no entry there is no settle
+  unsettled : (d : Deed) (h : Heap) → Inv s h → logs d (h .shape) ≡ [] → settledFor s (Do d) h ≡ h
+  unfolding wants full settledIf
+  unsettled d h g e = rw (e, le-ltb (s .l) (length (h .log) + 0) (let r = g .log-room in omega arith))
+
+  -- what passed 11 to 13 passes after the settle too
+  pub for-right : (c : Call) (h : Heap) → Inv s h → check c (h .shape) ≡ 0 → check c (settledFor s c h .shape) ≡ 0
+  unfolding refuses logs var
+  for-right (New v) h g e = refl
+  for-right (Do (Copy v w)) h g e = refl
+  for-right (Do (Clear v)) h g e = refl
+  for-right (Do (Link v f w)) h g e = rw (settledIf-variables (wants s (Do (Link v f w)) h) s (h .shape .variables) h) e
+  for-right (Do (Put v f x)) h g e = rw (settledIf-variables (wants s (Do (Put v f x)) h) s (h .shape .variables) h) e
+  for-right (Do (Blank v f)) h g e = rw (settledIf-variables (wants s (Do (Blank v f)) h) s (h .shape .variables) h) e
+  for-right (Do (Follow v f w)) h g e = rw (unsettled (Follow v f w) h g refl) e
+  for-right (Do (Read v f)) h g e = rw (unsettled (Read v f) h g refl) e
+  for-right (Do (Same v w)) h g e = rw (unsettled (Same v w) h g refl) e
+  for-right Settle h g e = refl
+
+  -- ---- the deeds
 
   module _ (h : Heap) (g : Inv s h) where
     t : Tables
     t = replay (s .cap) (h .log) (h .tables)
 
-    pub doCall-inv : (c : Call) → Fits s c → check c (h .shape) ≡ 0 → length (h .log) + length (logs c (h .shape)) ≤ s .l → Inv s (doCall c h .heap)
-    unfolding doCall t
-    doCall-inv c f e r =
+    pub doDeed-inv : (d : Deed) → InRange (s .m) d → refuses d (h .shape) ≡ 0 → length (h .log) + length (logs d (h .shape)) ≤ s .l → Inv s (doDeed d h .heap)
+    unfolding doDeed t
+    doDeed-inv d f e r =
         record {
-          good = rw replay-append (call-good s ok (h .shape) t (g .good) c f e);
+          good = rw replay-append (deed-good s ok (h .shape) t (g .good) d f e);
           frees =
               act-keeps s ok (h .shape) t (g .good) (λ fs. Frees (s .n) fs (h .first)) (g .frees)
               (λ a f x i l u p. frees-store (s .n) (h .shape .fields) (h .first) (g .good .len) (g .frees) a f x i l (store-live s ok (h .shape) t (g .good) a f x i l u))
-              c f e;
+              d f e;
           kept = g .kept;
-          plain-1 = act-keeps s ok (h .shape) t (g .good) Plain1 (g .plain-1) (λ a f x i l u p. plain-store (h .shape .fields) a f x u (g .plain-1)) c f e;
-          figures = act-keeps s ok (h .shape) t (g .good) Figures (g .figures) (λ a f x i l u p. figures-store (h .shape .fields) a f x p (g .figures)) c f e;
-          variables-long = act-variables c (h .shape) ∙ g .variables-long;
+          plain-1 = act-keeps s ok (h .shape) t (g .good) Plain1 (g .plain-1) (λ a f x i l u p. plain-store (h .shape .fields) a f x u (g .plain-1)) d f e;
+          figures = act-keeps s ok (h .shape) t (g .good) Figures (g .figures) (λ a f x i l u p. figures-store (h .shape .fields) a f x p (g .figures)) d f e;
+          variables-long = act-variables d (h .shape) ∙ g .variables-long;
           log-room = rw length-append r;
-          log-small = small-append (s .n) (h .log) (logs c (h .shape)) (g .log-small) (logs-small s ok (h .shape) t (g .good) c f);
+          log-small = small-append (s .n) (h .log) (logs d (h .shape)) (g .log-small) (logs-small s ok (h .shape) t (g .good) d f);
         }
 
     -- ---- new
@@ -204,69 +248,41 @@ module _ (s : Sizes) (ok : Limits s) where
 
   -- ---- a call
 
-  pub room-check : (c : Call) (h : Heap) → Inv s h → SameCheck c → check c (h .shape) ≡ 0 → check c (room s c h .shape) ≡ 0
-  unfolding room
-  room-check c h g p e = p (room s c h .shape) (h .shape) (settledIf-inv (full s (length (logs c (h .shape))) h) h g .1) ∙ e
-
-  room-inv : (c : Call) (h : Heap) → Inv s h → Fits s c → check c (h .shape) ≡ 0 → SameCheck c → Inv s (doCall c (room s c h) .heap)
-  unfolding room settledIf
-  room-inv c h g f e p = go (full s (length (logs c (h .shape))) h) refl
-    where
-      go : (q : Bool) → full s (length (logs c (h .shape))) h ≡ q → Inv s (doCall c (settledIf q s h) .heap)
-      go q d =
-          let r = settledIf-inv q h g in
-          doCall-inv (settledIf q s h) (r .0) c f (p (settledIf q s h .shape) (h .shape) (r .1) ∙ e)
-          (settledIf-room q (length (logs c (h .shape))) (length (logs c (settledIf q s h .shape))) h g (λ x. d ∙ x) (logs-long c (settledIf q s h .shape)) (same q))
-        where
-          same : (q : Bool) → q ≡ false → length (logs c (settledIf q s h .shape)) ≤ length (logs c (h .shape))
-          same true x = absurd (true≢false x)
-          same false x = omega arith
-
-  -- the settle before a new
-  pub new-room : (h : Heap) → Inv s h → length (settledIf (full s 1 h || noneFree s h) s h .log) + 1 ≤ s .l
-  new-room h g = settledIf-room (full s 1 h || noneFree s h) 1 1 h g (not-first (full s 1 h) (noneFree s h)) (omega arith) (λ x. omega arith)
-
-  pub doNew-inv : (v : ℕ) (h : Heap) → Inv s h → length (h .log) + 1 ≤ s .l → Inv s (doNew s v h .heap)
+  pub doNew-inv : (v : ℕ) (h : Heap) → Inv s h → length (h .log) + 1 ≤ s .l → Inv s (doNew (noneFree s h) v h .heap)
   unfolding doNew
   doNew-inv v h g r = at (noneFree s h) refl
     where
-      at : (q : Bool) → noneFree s h ≡ q → Inv s ((cond q (refused h 14) (done (takeCell v h) (pos 0))) .heap)
+      at : (q : Bool) → noneFree s h ≡ q → Inv s (doNew q v h .heap)
       at true d = g
       at false d = take-inv h g v d r
 
-  short : (h : Heap) → Inv s h → length (h .log) + 0 ≤ s .l
-  short h g = let r = g .log-room in omega arith
+  acted-inv : (c : Call) (k : ℕ) (h : Heap) → Inv s h → Fits (s .m) c → check c (h .shape) ≡ 0 → length (h .log) + needs c (h .shape) ≤ s .l → Inv s (acted s c k h .heap)
+  unfolding acted
+  acted-inv (New v) k h g f e r = doNew-inv v h g r
+  acted-inv (Do d) k h g f e r = doDeed-inv h g d f e r
+  acted-inv Settle k h g f e r = g
 
-  pub run-inv : (c : Call) (h : Heap) → Inv s h → Fits s c → check c (h .shape) ≡ 0 → Inv s (run s c h .heap)
-  unfolding run doSettle check var logs
-  run-inv (New v) h g f e = doNew-inv v (settledIf (full s 1 h || noneFree s h) s h) (settledIf-inv (full s 1 h || noneFree s h) h g .0) (new-room h g)
-  run-inv (Copy v w) h g f e = doCall-inv h g (Copy v w) f e (short h g)
-  run-inv (Clear v) h g f e = doCall-inv h g (Clear v) f e (short h g)
-  run-inv (Link v f w) h g k e = room-inv (Link v f w) h g k e (λ a b p. rw p)
-  run-inv (Put v f x) h g k e = room-inv (Put v f x) h g k e (λ a b p. rw p)
-  run-inv (Blank v f) h g k e = room-inv (Blank v f) h g k e (λ a b p. rw p)
-  run-inv (Follow v f w) h g k e = doCall-inv h g (Follow v f w) k e (short h g)
-  run-inv (Read v f) h g k e = doCall-inv h g (Read v f) k e (short h g)
-  run-inv (Same v w) h g f e = doCall-inv h g (Same v w) f e (short h g)
-  run-inv Settle h g f e = settled-inv h g
+  pub run-inv : (c : Call) (h : Heap) → Inv s h → Fits (s .m) c → check c (h .shape) ≡ 0 → Inv s (run s c h .heap)
+  unfolding run
+  run-inv c h g f e = acted-inv c (settledFor s c h .freed - h .freed) (settledFor s c h) (for-inv c h g) f (for-right c h g e) (for-room c h g)
 
-  pub step-inv : (c : Call) (h : Heap) → Inv s h → Fits s c → Inv s (step s c h .heap)
+  pub step-inv : (c : Call) (h : Heap) → Inv s h → Fits (s .m) c → Inv s (step s c h .heap)
   unfolding step
   step-inv c h g f = go (check c (h .shape)) refl
     where
-      go : (k : ℕ) → check c (h .shape) ≡ k → Inv s ((elim k as (λ x. Stepped) [ zero ↦ run s c h | suc j ↦ refused h (suc j) ]) .heap)
+      go : (k : ℕ) → check c (h .shape) ≡ k → Inv s (unless k (refused h) (run s c h) .heap)
       go zero e = run-inv c h g f e
       go (suc j) e = g
 
   -- ---- a batch
 
-  pub calls-ended : (cs : List Call) (h : Heap) → Inv s h → AllFit s cs → Ended s (calls s cs h .heap)
+  pub calls-ended : (cs : List Call) (h : Heap) → Inv s h → AllFit (s .m) cs → Ended s (calls s cs h .heap)
   unfolding calls
   calls-ended [] h g f = settle-sound h g
   calls-ended (c ∷ cs) h g f = calls-ended cs (step s c h .heap) (step-inv c h g (f .0)) (f .1)
 
   -- the invariant does not ask how many cells were freed
-  pub counted-from-0 : (h : Heap) → Inv s h → Inv s (record { shape = h .shape; first = h .first; tables = h .tables; log = h .log; freed = 0 })
+  pub counted-from-0 : (h : Heap) → Inv s h → Inv s (unfreed h)
   counted-from-0 h g =
       record {
         good = g .good;
@@ -279,6 +295,6 @@ module _ (s : Sizes) (ok : Limits s) where
         log-small = g .log-small;
       }
 
-  pub batch-ended : (cs : List Call) (h : Heap) → Inv s h → AllFit s cs → Ended s (batch s cs h .heap)
+  pub batch-ended : (cs : List Call) (h : Heap) → Inv s h → AllFit (s .m) cs → Ended s (batch s cs h .heap)
   unfolding batch
-  batch-ended cs h g f = calls-ended cs (record { shape = h .shape; first = h .first; tables = h .tables; log = h .log; freed = 0 }) (counted-from-0 h g) f
+  batch-ended cs h g f = calls-ended cs (unfreed h) (counted-from-0 h g) f

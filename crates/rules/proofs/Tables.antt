@@ -8,7 +8,7 @@ use lib.Dec.{eqb, ltb}
 use borrow.Author.Tests.{eqb-true, eqb-false, eq-eqb, ne-eqb}
 use Rattle.rules.specs.Table.{Entry, entry, has, insert, remove, countIn, enter, delete}
 use Rattle.rules.specs.Rules.{Tables, Transaction, allocates, creates, destroys, enterZct, leaveZct, enterMrt, leaveMrt, onCreate, onDestroy, apply}
-use Rattle.rules.proofs.Invariant.{View, view, countOf, countV, count, okOf, okV, named}
+use Rattle.rules.specs.Invariant.{View, view, countOf, countV, count, okOf, okV, named}
 
 pub eqb-self : (a : ℕ) → eqb a a ≡ true
 eqb-self a = eq-eqb a a refl

@@ -15,7 +15,7 @@ use Rattle.rules.specs.Table.{has, countIn}
 use Rattle.rules.specs.Rules.{Tables, leaveZct}
 use Rattle.rules.specs.Settle.{Heap, drops, holds, place, field, store, freeCell}
 use Rattle.rules.specs.Whole.{Kept}
-use Rattle.rules.proofs.Invariant.{hit, refs, live, view, count, okOf, Counted, Good, Small}
+use Rattle.rules.specs.Invariant.{count, hit, refs, live, view, okOf, Counted, Good, Small}
 use Rattle.rules.proofs.Tables.{remove-own, remove-other}
 use Rattle.rules.proofs.Sorted.{leaveZct-kept, replay-kept, small-append, replay-append}
 use Rattle.rules.proofs.Exact.{drop-counted}

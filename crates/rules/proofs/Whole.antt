@@ -21,7 +21,7 @@ use Rattle.rules.specs.Rows.{Lent, lent, words, rowsOf, headOf, heapOf}
 use Rattle.rules.specs.Refusals.{cleared}
 use Rattle.rules.specs.Whole.{Inside, Logged, Whole, startOf}
 use Rattle.rules.specs.Sound.{times, Sound, Sized}
-use Rattle.rules.proofs.Invariant.{used, live, Chain, Small, Inv}
+use Rattle.rules.specs.Invariant.{used, live, Chain, Small, Inv}
 use Rattle.rules.proofs.Cells.{live-below}
 use Rattle.rules.specs.Head.{Limits}
 use Rattle.rules.proofs.Calls.{holds-var}

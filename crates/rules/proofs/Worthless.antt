@@ -11,6 +11,9 @@ use Rattle.rules.specs.declared.Head.{Head}
 use Rattle.rules.specs.Head.{freshHead, sized}
 use Rattle.rules.specs.Sound.{Sound, Sized, Word, heldAmong}
 use Rattle.rules.specs.Decide.{sound?, sized?, dec-word}
+use Rattle.rules.specs.Demands.{Demand1, Demand2, Demand3, newWords, freeCells}
+use Rattle.rules.specs.Worthless.{saysFour, saysFourteen, answersNought, freesNothing, freesOnce, madeUpCount}
+use Rattle.rules.proofs.Tests.{sized-true, sound-true}
 use Rattle.rules.specs.Rows as R
 use Rattle.rules.specs.Rules as U
 use Rattle.rules.specs.Settle as S
@@ -19,9 +22,6 @@ use Rattle.rules.specs.Step as T
 use Rattle.rules.specs.Refusals as F
 use Rattle.rules.specs.Run as N
 use Rattle.rules.specs.Endless as E
-use Rattle.rules.specs.Demands.{Demand1, Demand2, Demand3, newWords, freeCells}
-use Rattle.rules.specs.Worthless.{saysFour, saysFourteen, answersNought, freesNothing, freesOnce, madeUpCount}
-use Rattle.rules.proofs.Tests.{sized-true, sound-true}
 
 -- a heap of one cell and one variable: fresh, and with its cell held
 abbrev h₀ : Head
@@ -84,7 +84,7 @@ record Computed : Type 0 where
   count-calls : C.callsIn 1 [] ≡ some []
 
 computed : Computed
-unfolding F.isSized F.isSound sound? sized? dec-word Word F.batchOf F.checkCalls F.checkAnswers F.checkSound F.accepted F.answered R.rowsOf R.headOf R.heapOf C.callOf C.callsOf C.callsIn U.enterZct U.leaveZct U.enterMrt U.leaveMrt U.onCreate U.onDestroy U.apply U.replay S.place S.field S.store S.drops S.freeCell S.reclaim S.replayed S.settledBy S.settled C.var C.at C.isHeld C.isCell C.isFigure C.want C.orElse C.check C.makes C.logs C.write C.hold C.toCell C.target C.act C.figureOf C.sameCell C.value T.settledIf T.full T.noneFree T.after T.takeCell T.doNew T.doSettle T.doCall T.room T.run T.step T.calls T.batch T.freeFrom T.fresh N.runFrom N.runOf N.saidIn E.endless E.endlessRun E.endlessStep F.freshOf
+unfolding F.isSized F.isSound sound? sized? dec-word Word F.batchOf F.checkCalls F.checkAnswers F.checkSound F.accepted F.answered R.rowsOf R.headOf R.heapOf C.callOf C.callsOf C.callsIn U.enterZct U.leaveZct U.enterMrt U.leaveMrt U.onCreate U.onDestroy U.apply U.replay S.place S.field S.store S.freeCell S.reclaim S.replayed S.settledBy S.settled C.var C.at C.refuses C.logs C.write C.hold C.act C.value T.full T.noneFree T.wants T.settledIf T.takeCell T.doNew T.doDeed T.acted T.run T.step T.calls T.batch T.freeFrom T.fresh N.runFrom N.runOf N.saidIn E.endless E.endlessRun E.endlessStep F.freshOf
 computed =
     record {
       says-14 = refl;

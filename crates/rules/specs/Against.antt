@@ -4,8 +4,9 @@ use mathlib.Core.Path.{_≡_}
 use mathlib.Core.List.{List, [], _∷_, _++_}
 use lib.IntN.{pos}
 use Rattle.rules.specs.declared.Field.the-variants.{Nothing, Free}
+use Rattle.rules.specs.declared.Deed.the-variants.{Clear, Link, Put, Blank}
 use Rattle.rules.specs.declared.Call.{Call}
-use Rattle.rules.specs.declared.Call.the-variants.{New, Clear, Link, Put, Blank, Settle}
+use Rattle.rules.specs.declared.Call.the-variants.{New, Do, Settle}
 use Rattle.rules.specs.declared.Sizes.{Sizes}
 use Rattle.rules.specs.Head.{sized}
 use Rattle.rules.specs.Table.{entry}
@@ -21,21 +22,21 @@ ends n cs = P.batch (sizes n) cs (P.fresh (sizes n))
 
 -- two pointers to cell 1
 abbrev two : List Call
-two = New 0 ∷ New 1 ∷ Link 0 0 1 ∷ Link 0 1 1 ∷ Settle ∷ []
+two = New 0 ∷ New 1 ∷ Do (Link 0 0 1) ∷ Do (Link 0 1 1) ∷ Settle ∷ []
 
 pub record LooksRight : Type 0 where
   -- freeing a cell when its count falls to none, without looking at the variables: variable 1 still holds cell 1
-  pub held-cells-stay : ends 4 (New 0 ∷ New 1 ∷ Link 0 0 1 ∷ Blank 0 0 ∷ []) .heap .tables .zct ≡ 0 ∷ 1 ∷ []
+  pub held-cells-stay : ends 4 (New 0 ∷ New 1 ∷ Do (Link 0 0 1) ∷ Do (Blank 0 0) ∷ []) .heap .tables .zct ≡ 0 ∷ 1 ∷ []
   -- logging the create before the destroy when a field is overwritten: a count can then touch the cap and stick
-  pub destroyed-then-created : ends 4 (two ++ (Link 0 0 1 ∷ [])) .heap .tables .mrt ≡ entry 1 2 ∷ []
+  pub destroyed-then-created : ends 4 (two ++ (Do (Link 0 0 1) ∷ [])) .heap .tables .mrt ≡ entry 1 2 ∷ []
   -- lowering a count from the cap, or dropping it at the cap: of three pointers to cell 1 two go
-  pub cap-stays : ends 4 (two ++ (Link 1 0 1 ∷ Settle ∷ Blank 0 0 ∷ Blank 0 1 ∷ [])) .heap .tables .mrt ≡ entry 1 3 ∷ []
+  pub cap-stays : ends 4 (two ++ (Do (Link 1 0 1) ∷ Settle ∷ Do (Blank 0 0) ∷ Do (Blank 0 1) ∷ [])) .heap .tables .mrt ≡ entry 1 3 ∷ []
   -- entering a second pointer in MRT with 1
   pub second-pointer-is-two : ends 4 two .heap .tables .mrt ≡ entry 1 2 ∷ []
   -- forgetting that cells reclaimed in the loop bring new cells into ZCT: cell 0 takes cell 1 with it
-  pub freeing-goes-on : ends 4 (New 0 ∷ New 1 ∷ Link 0 0 1 ∷ Clear 0 ∷ Clear 1 ∷ []) .heap .freed ≡ 2
+  pub freeing-goes-on : ends 4 (New 0 ∷ New 1 ∷ Do (Link 0 0 1) ∷ Do (Clear 0) ∷ Do (Clear 1) ∷ []) .heap .freed ≡ 2
   -- handing out a cell with its old figures in it
-  pub new-cells-are-blank : ends 1 (New 0 ∷ Put 0 1 (pos 7) ∷ Clear 0 ∷ New 0 ∷ []) .heap .shape .fields ≡ Nothing ∷ Nothing ∷ []
-  pub freed-cells-are-blank : ends 1 (New 0 ∷ Put 0 1 (pos 7) ∷ Clear 0 ∷ []) .heap .shape .fields ≡ Free 1 ∷ Nothing ∷ []
+  pub new-cells-are-blank : ends 1 (New 0 ∷ Do (Put 0 1 (pos 7)) ∷ Do (Clear 0) ∷ New 0 ∷ []) .heap .shape .fields ≡ Nothing ∷ Nothing ∷ []
+  pub freed-cells-are-blank : ends 1 (New 0 ∷ Do (Put 0 1 (pos 7)) ∷ Do (Clear 0) ∷ []) .heap .shape .fields ≡ Free 1 ∷ Nothing ∷ []
   -- keeping insertion order in a table: cell 1 comes into ZCT after cells 0 and 2
-  pub tables-ascend : ends 4 (New 0 ∷ New 1 ∷ Link 0 0 1 ∷ New 2 ∷ Settle ∷ Blank 0 0 ∷ []) .heap .tables .zct ≡ 0 ∷ 1 ∷ 2 ∷ []
+  pub tables-ascend : ends 4 (New 0 ∷ New 1 ∷ Do (Link 0 0 1) ∷ New 2 ∷ Settle ∷ Do (Blank 0 0) ∷ []) .heap .tables .zct ≡ 0 ∷ 1 ∷ 2 ∷ []

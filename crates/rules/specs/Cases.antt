@@ -6,8 +6,9 @@ use lib.Dec.{eqb}
 use lib.ListN.{length, getD, replicate, take}
 use lib.IntN.{ℤ, pos, negsuc}
 use Rattle.rules.specs.declared.Head.{Head}
+use Rattle.rules.specs.declared.Deed.the-variants.{Copy, Clear, Link, Put, Blank, Follow, Read, Same}
 use Rattle.rules.specs.declared.Call.{Call}
-use Rattle.rules.specs.declared.Call.the-variants.{New, Copy, Clear, Link, Put, Blank, Follow, Read, Same, Settle}
+use Rattle.rules.specs.declared.Call.the-variants.{New, Do, Settle}
 use Rattle.rules.specs.Head.{freshHead, sized}
 use Rattle.rules.specs.Rows.{Lent, lent}
 use Rattle.rules.specs.Sound.{listFrom}
@@ -40,14 +41,14 @@ pub record Case : Type 0 where
 
 abbrev pub wordsOf : Call → List ℤ
 wordsOf (New v) = pos 1 ∷ pos v ∷ pos 0 ∷ pos 0 ∷ []
-wordsOf (Copy v w) = pos 2 ∷ pos v ∷ pos w ∷ pos 0 ∷ []
-wordsOf (Clear v) = pos 3 ∷ pos v ∷ pos 0 ∷ pos 0 ∷ []
-wordsOf (Link v f w) = pos 4 ∷ pos v ∷ pos f ∷ pos w ∷ []
-wordsOf (Put v f x) = pos 5 ∷ pos v ∷ pos f ∷ x ∷ []
-wordsOf (Blank v f) = pos 6 ∷ pos v ∷ pos f ∷ pos 0 ∷ []
-wordsOf (Follow v f w) = pos 7 ∷ pos v ∷ pos f ∷ pos w ∷ []
-wordsOf (Read v f) = pos 8 ∷ pos v ∷ pos f ∷ pos 0 ∷ []
-wordsOf (Same v w) = pos 9 ∷ pos v ∷ pos w ∷ pos 0 ∷ []
+wordsOf (Do (Copy v w)) = pos 2 ∷ pos v ∷ pos w ∷ pos 0 ∷ []
+wordsOf (Do (Clear v)) = pos 3 ∷ pos v ∷ pos 0 ∷ pos 0 ∷ []
+wordsOf (Do (Link v f w)) = pos 4 ∷ pos v ∷ pos f ∷ pos w ∷ []
+wordsOf (Do (Put v f x)) = pos 5 ∷ pos v ∷ pos f ∷ x ∷ []
+wordsOf (Do (Blank v f)) = pos 6 ∷ pos v ∷ pos f ∷ pos 0 ∷ []
+wordsOf (Do (Follow v f w)) = pos 7 ∷ pos v ∷ pos f ∷ pos w ∷ []
+wordsOf (Do (Read v f)) = pos 8 ∷ pos v ∷ pos f ∷ pos 0 ∷ []
+wordsOf (Do (Same v w)) = pos 9 ∷ pos v ∷ pos w ∷ pos 0 ∷ []
 wordsOf Settle = pos 10 ∷ pos 0 ∷ pos 0 ∷ pos 0 ∷ []
 
 abbrev pub allWords : List Call → List ℤ
@@ -135,7 +136,7 @@ abbrev pub case : ℕ → List Call → List Claim → Case
 case n cs ls = record { cells = n; calls = cs; claims = ls }
 
 abbrev pub p5 : List Call
-p5 = New 0 ∷ New 1 ∷ Link 0 0 1 ∷ Link 0 1 1 ∷ Settle ∷ []
+p5 = New 0 ∷ New 1 ∷ Do (Link 0 0 1) ∷ Do (Link 0 1 1) ∷ Settle ∷ []
 
 unfoldable pub table : List Case
 table =
@@ -144,23 +145,23 @@ table =
     -- P2 n 1: new 0, new 0. Statuses 0, 14 (and none freed)
     ∷ case 1 (New 0 ∷ New 0 ∷ []) (statuses (0 ∷ 14 ∷ []) ∷ total 0 ∷ [])
     -- P3 n 1: new 0, clear 0, new 0. Statuses 0, 0, 0; total freed 1
-    ∷ case 1 (New 0 ∷ Clear 0 ∷ New 0 ∷ []) (statuses (0 ∷ 0 ∷ 0 ∷ []) ∷ total 1 ∷ [])
+    ∷ case 1 (New 0 ∷ Do (Clear 0) ∷ New 0 ∷ []) (statuses (0 ∷ 0 ∷ 0 ∷ []) ∷ total 1 ∷ [])
     -- P4 new 0, link 0 0 0, clear 0, settle: frees 0
-    ∷ case 4 (New 0 ∷ Link 0 0 0 ∷ Clear 0 ∷ Settle ∷ []) (frees 3 0 ∷ [])
+    ∷ case 4 (New 0 ∷ Do (Link 0 0 0) ∷ Do (Clear 0) ∷ Settle ∷ []) (frees 3 0 ∷ [])
     -- P5: ZCT 0; MRT cell 1 count 2
     ∷ case 4 p5 (zct (0 ∷ []) ∷ mrt (1 ∷ []) (2 ∷ []) ∷ [])
     -- P6 P5, then blank 0 0, settle: ZCT 0; MRT empty
-    ∷ case 4 (p5 ++ (Blank 0 0 ∷ Settle ∷ [])) (zct (0 ∷ []) ∷ mrt [] [] ∷ [])
+    ∷ case 4 (p5 ++ (Do (Blank 0 0) ∷ Settle ∷ [])) (zct (0 ∷ []) ∷ mrt [] [] ∷ [])
     -- P7: frees 0; MRT cell 0 count 3
-    ∷ case 4 (New 0 ∷ Link 0 0 0 ∷ Link 0 1 0 ∷ New 1 ∷ Link 1 0 0 ∷ Blank 0 0 ∷ Blank 0 1 ∷ Blank 1 0 ∷ Clear 0 ∷ Settle ∷ [])
+    ∷ case 4 (New 0 ∷ Do (Link 0 0 0) ∷ Do (Link 0 1 0) ∷ New 1 ∷ Do (Link 1 0 0) ∷ Do (Blank 0 0) ∷ Do (Blank 0 1) ∷ Do (Blank 1 0) ∷ Do (Clear 0) ∷ Settle ∷ [])
     (frees 9 0 ∷ mrt (0 ∷ []) (3 ∷ []) ∷ [])
     -- P8: frees 3; free list 2, 1, 0, 3
-    ∷ case 4 (New 0 ∷ New 1 ∷ New 2 ∷ Link 0 0 1 ∷ Link 1 0 2 ∷ Clear 0 ∷ Clear 1 ∷ Clear 2 ∷ Settle ∷ [])
+    ∷ case 4 (New 0 ∷ New 1 ∷ New 2 ∷ Do (Link 0 0 1) ∷ Do (Link 1 0 2) ∷ Do (Clear 0) ∷ Do (Clear 1) ∷ Do (Clear 2) ∷ Settle ∷ [])
     (frees 8 3 ∷ freeList (2 ∷ 1 ∷ 0 ∷ 3 ∷ []) ∷ [])
     -- P9 new 0, new 1, link 0 0 1 twice, settle: ZCT 0, MRT empty
-    ∷ case 4 (New 0 ∷ New 1 ∷ Link 0 0 1 ∷ Link 0 0 1 ∷ Settle ∷ []) (zct (0 ∷ []) ∷ mrt [] [] ∷ [])
+    ∷ case 4 (New 0 ∷ New 1 ∷ Do (Link 0 0 1) ∷ Do (Link 0 0 1) ∷ Settle ∷ []) (zct (0 ∷ []) ∷ mrt [] [] ∷ [])
     -- P10 new 0, put 0 1 -2147483648, read 0 1: value -2147483648
-    ∷ case 4 (New 0 ∷ Put 0 1 (negsuc 2147483647) ∷ Read 0 1 ∷ []) (valueIs 2 (negsuc 2147483647) ∷ [])
+    ∷ case 4 (New 0 ∷ Do (Put 0 1 (negsuc 2147483647)) ∷ Do (Read 0 1) ∷ []) (valueIs 2 (negsuc 2147483647) ∷ [])
     -- P11 new 0, read 0 0, follow 0 0 1, same 0 1: statuses 0, 13, 12, 11
-    ∷ case 4 (New 0 ∷ Read 0 0 ∷ Follow 0 0 1 ∷ Same 0 1 ∷ []) (statuses (0 ∷ 13 ∷ 12 ∷ 11 ∷ []) ∷ [])
+    ∷ case 4 (New 0 ∷ Do (Read 0 0) ∷ Do (Follow 0 0 1) ∷ Do (Same 0 1) ∷ []) (statuses (0 ∷ 13 ∷ 12 ∷ 11 ∷ []) ∷ [])
     ∷ []

@@ -9,7 +9,7 @@ use lib.IntN.{ℤ, pos, negsuc}
 use Rattle.rules.specs.declared.Head.{Head}
 use Rattle.rules.specs.declared.Sizes.{Sizes}
 use Rattle.rules.specs.declared.Call.{Call}
-use Rattle.rules.specs.declared.Call.the-variants.{New, Copy, Clear, Link, Put, Blank, Follow, Read, Same, Settle}
+use Rattle.rules.specs.declared.Call.the-variants.{New, Do, Settle}
 use Rattle.rules.specs.Head.{freshHead, zeroHead}
 use Rattle.rules.specs.Call.{callsIn, isNought}
 use Rattle.rules.specs.Step.{fresh}
@@ -69,14 +69,7 @@ ExactBelowCap h r = Agree h (r .kinds) (r .tables) (pointersTo (h .sizes .n) (r 
 
 abbrev pub isNew : Call → Bool
 isNew (New v) = true
-isNew (Copy v w) = false
-isNew (Clear v) = false
-isNew (Link v f w) = false
-isNew (Put v f x) = false
-isNew (Blank v f) = false
-isNew (Follow v f w) = false
-isNew (Read v f) = false
-isNew (Same v w) = false
+isNew (Do d) = false
 isNew Settle = false
 
 -- the cells handed out: news answered 0

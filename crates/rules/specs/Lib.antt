@@ -10,6 +10,7 @@ pub mod Rows
 pub mod Whole
 pub mod Lending
 pub mod Sound
+pub mod Invariant
 pub mod Decide
 pub mod Refusals
 pub mod Endless

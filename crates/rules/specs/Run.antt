@@ -11,7 +11,7 @@ use lib.IntN.{ℤ, pos, negsuc}
 use Rattle.rules.specs.declared.Head.{Head}
 use Rattle.rules.specs.declared.Sizes.{Sizes}
 use Rattle.rules.specs.declared.Call.{Call}
-use Rattle.rules.specs.declared.Call.the-variants.{New, Copy, Clear, Link, Put, Blank, Follow, Read, Same, Settle}
+use Rattle.rules.specs.declared.Call.the-variants.{New, Do, Settle}
 use Rattle.rules.specs.Field.{Signed32}
 use Rattle.rules.specs.Call.{callsIn}
 use Rattle.rules.specs.Rows.{Lent}
@@ -146,14 +146,7 @@ saidIn m (b ∷ bs) (o ∷ os) = cond (eqb (o .outcome .status) 0) (saidBy (call
 -- the values of settle aren't compared
 abbrev pub NotSettle : Call → Type 0
 NotSettle (New v) = Unit {0}
-NotSettle (Copy v w) = Unit {0}
-NotSettle (Clear v) = Unit {0}
-NotSettle (Link v f w) = Unit {0}
-NotSettle (Put v f x) = Unit {0}
-NotSettle (Blank v f) = Unit {0}
-NotSettle (Follow v f w) = Unit {0}
-NotSettle (Read v f) = Unit {0}
-NotSettle (Same v w) = Unit {0}
+NotSettle (Do d) = Unit {0}
 NotSettle Settle = ⊥
 
 -- call by call, the answers are those of the endless heap

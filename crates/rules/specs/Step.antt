@@ -1,19 +1,20 @@
--- The settle before a call, at most one; 14; a batch and its count; a fresh heap. Assumes nothing.
+-- A call: settled first where it wants that, at most once, and then done; 14; a batch and its count; a fresh heap. Assumes nothing.
 use Prim.Native.Nat.{ℕ, zero, suc, _+_, _-_}
-use mathlib.Core.Bool.{Bool, true, false, cond, _||_}
-use mathlib.Core.Option.{none, some}
+use mathlib.Core.Bool.{Bool, true, false, _||_}
+use mathlib.Core.Option.{Option, none, some}
 use mathlib.Core.List.{List, [], _∷_, _++_}
 use lib.Dec.{eqb, ltb}
 use lib.IntN.{ℤ, pos}
 use lib.ListN.{length, replicate}
 use Rattle.rules.specs.declared.Field.{Field}
 use Rattle.rules.specs.declared.Field.the-variants.{Nothing, Figure, Cell, Free}
+use Rattle.rules.specs.declared.Deed.{Deed}
 use Rattle.rules.specs.declared.Call.{Call}
-use Rattle.rules.specs.declared.Call.the-variants.{New, Copy, Clear, Link, Put, Blank, Follow, Read, Same, Settle}
+use Rattle.rules.specs.declared.Call.the-variants.{New, Do, Settle}
 use Rattle.rules.specs.declared.Sizes.{Sizes}
 use Rattle.rules.specs.Rules.{allocates}
-use Rattle.rules.specs.Settle.{Heap, field, store, settled}
-use Rattle.rules.specs.Call.{Answer, answer, check, logs, act, value, hold}
+use Rattle.rules.specs.Settle.{Shape, Heap, field, store, settledBy, settled}
+use Rattle.rules.specs.Call.{Answer, answer, unless, check, logs, act, value, hold}
 
 -- a heap and the answer that a call gave
 pub record Stepped : Type 0 where
@@ -27,10 +28,13 @@ done h x = record { heap = h; answer = answer 0 x }
 abbrev pub refused : Heap → ℕ → Stepped
 refused h k = record { heap = h; answer = answer k (pos 0) }
 
--- the settle before a call, made where b says so
-unfoldable pub settledIf : Bool → Sizes → Heap → Heap
-settledIf true s h = settled s h
-settledIf false s h = h
+-- ---- the settle before a call
+
+-- how many entries a call needs: new an allocate, a deed what it logs
+abbrev pub needs : Call → Shape → ℕ
+needs (New v) s = 1
+needs (Do d) s = length (logs d s)
+needs Settle s = 0
 
 -- k more entries are more than the log has left
 unfoldable pub full : Sizes → ℕ → Heap → Bool
@@ -40,8 +44,30 @@ full s k h = ltb (s .l) (length (h .log) + k)
 unfoldable pub noneFree : Sizes → Heap → Bool
 noneFree s h = eqb (h .first) (s .n)
 
+-- a settle is also made: before a call that passed 11 to 13 and needs more entries than the log has left; before a new with no free cell.
+-- (A settle call is one.)
+unfoldable pub wants : Sizes → Call → Heap → Bool
+wants s (New v) h = full s (needs (New v) (h .shape)) h || noneFree s h
+wants s (Do d) h = full s (needs (Do d) (h .shape)) h
+wants s Settle h = true
+
+-- the holds that the settle before a call counts: what the variables hold (the settle made for a new still counts v's old hold)
+abbrev pub counted : Call → Heap → List (Option ℕ)
+counted c h = h .shape .variables
+
+-- a settle that counts the holds hs, made where b says so
+unfoldable pub settledIf : Bool → Sizes → List (Option ℕ) → Heap → Heap
+settledIf true s hs h = settledBy s hs h
+settledIf false s hs h = h
+
+-- before one call at most one such settle is made
+abbrev pub settledFor : Sizes → Call → Heap → Heap
+settledFor s c h = settledIf (wants s c h) s (counted c h) h
+
+-- ---- the call itself
+
 -- the free address after a free cell
-unfoldable pub after : Field → ℕ
+abbrev pub after : Field → ℕ
 after Nothing = 0
 after (Figure x) = 0
 after (Cell a) = 0
@@ -58,41 +84,33 @@ takeCell v h =
       freed = h .freed;
     }
 
--- 14, new finds no free cell after its settle
-unfoldable pub doNew : Sizes → ℕ → Heap → Stepped
-doNew s v h = cond (noneFree s h) (refused h 14) (done (takeCell v h) (pos 0))
+-- 14, new finds no free cell after its settle: where b says that there is none
+unfoldable pub doNew : Bool → ℕ → Heap → Stepped
+doNew true v h = refused h 14
+doNew false v h = done (takeCell v h) (pos 0)
 
--- value is the number of cells this settle freed
-unfoldable pub doSettle : Heap → Heap → Stepped
-doSettle h h′ = done h′ (pos (h′ .freed - h .freed))
-
--- any other call
-unfoldable pub doCall : Call → Heap → Stepped
-doCall c h =
+-- a deed does what the list of calls says, and adds what it logs
+unfoldable pub doDeed : Deed → Heap → Stepped
+doDeed d h =
     done
-    (record { shape = act c (h .shape); first = h .first; tables = h .tables; log = h .log ++ logs c (h .shape); freed = h .freed })
-    (value c (h .shape))
+    (record { shape = act d (h .shape); first = h .first; tables = h .tables; log = h .log ++ logs d (h .shape); freed = h .freed })
+    (value d (h .shape))
 
--- a settle is made before a call that needs more entries than the log has left
-unfoldable pub room : Sizes → Call → Heap → Heap
-room s c h = settledIf (full s (length (logs c (h .shape))) h) s h
+-- the call after its settle, which freed k cells: a settle's value is that number
+unfoldable pub acted : Sizes → Call → ℕ → Heap → Stepped
+acted s (New v) k h = doNew (noneFree s h) v h
+acted s (Do d) k h = doDeed d h
+acted s Settle k h = done h (pos k)
 
--- a call that passed 11 to 13; before a new with no free cell a settle is made too, before one call at most one
+-- a call that passed 11 to 13: settled first where it wants that, then done
 unfoldable pub run : Sizes → Call → Heap → Stepped
-run s (New v) h = doNew s v (settledIf (full s 1 h || noneFree s h) s h)
-run s (Copy v w) h = doCall (Copy v w) h
-run s (Clear v) h = doCall (Clear v) h
-run s (Link v f w) h = doCall (Link v f w) (room s (Link v f w) h)
-run s (Put v f x) h = doCall (Put v f x) (room s (Put v f x) h)
-run s (Blank v f) h = doCall (Blank v f) (room s (Blank v f) h)
-run s (Follow v f w) h = doCall (Follow v f w) h
-run s (Read v f) h = doCall (Read v f) h
-run s (Same v w) h = doCall (Same v w) h
-run s Settle h = doSettle h (settled s h)
+run s c h = let h′ = settledFor s c h in acted s c (h′ .freed - h .freed) h′
 
 -- the order is 11, 12, 13, then the call itself
 unfoldable pub step : Sizes → Call → Heap → Stepped
-step s c h = elim (check c (h .shape)) [ zero ↦ run s c h | suc k ↦ refused h (suc k) ]
+step s c h = unless (check c (h .shape)) (refused h) (run s c h)
+
+-- ---- a batch
 
 -- a heap and the answers that a batch gave
 pub record Result : Type 0 where
@@ -107,9 +125,15 @@ calls s (c ∷ cs) h =
     let r = calls s cs (o .heap) in
     record { heap = r .heap; answers = o .answer ∷ r .answers }
 
+-- no cell freed yet
+abbrev pub unfreed : Heap → Heap
+unfreed h = record { shape = h .shape; first = h .first; tables = h .tables; log = h .log; freed = 0 }
+
 -- a batch counts the cells freed by all its settles
 unfoldable pub batch : Sizes → List Call → Heap → Result
-batch s cs h = calls s cs (record { shape = h .shape; first = h .first; tables = h .tables; log = h .log; freed = 0 })
+batch s cs h = calls s cs (unfreed h)
+
+-- ---- a fresh heap
 
 -- k cells free from a on, in their order
 unfoldable pub freeFrom : ℕ → ℕ → List Field

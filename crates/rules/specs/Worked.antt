@@ -2,14 +2,14 @@
 use lib.Dec.{T}
 use Rattle.rules.specs.Sound.{Word}
 use Rattle.rules.specs.Decide.{sound?, sized?, dec-word}
+use Rattle.rules.specs.Cases.{freshly, outcomeOf, right, table}
 use Rattle.rules.specs.Rows as R
 use Rattle.rules.specs.Rules as U
 use Rattle.rules.specs.Settle as S
 use Rattle.rules.specs.Call as C
 use Rattle.rules.specs.Step as P
 use Rattle.rules.specs.Refusals as F
-use Rattle.rules.specs.Cases.{freshly, outcomeOf, right, table}
 
 pub worked : T (right table)
-unfolding right table outcomeOf freshly F.isSized F.isSound sound? sized? dec-word Word F.freshOf F.batchOf F.checkCalls F.checkAnswers F.checkSound F.accepted F.answered R.rowsOf R.headOf R.heapOf C.callOf C.callsOf C.callsIn U.enterZct U.leaveZct U.enterMrt U.leaveMrt U.onCreate U.onDestroy U.apply U.replay S.place S.field S.store S.drops S.freeCell S.reclaim S.replayed S.settledBy S.settled C.var C.at C.isHeld C.isCell C.isFigure C.want C.orElse C.check C.makes C.logs C.write C.hold C.toCell C.target C.act C.figureOf C.sameCell C.value P.settledIf P.full P.noneFree P.after P.takeCell P.doNew P.doSettle P.doCall P.room P.run P.step P.calls P.batch P.freeFrom P.fresh
+unfolding right table outcomeOf freshly F.isSized F.isSound sound? sized? dec-word Word F.freshOf F.batchOf F.checkCalls F.checkAnswers F.checkSound F.accepted F.answered R.rowsOf R.headOf R.heapOf C.callOf C.callsOf C.callsIn U.enterZct U.leaveZct U.enterMrt U.leaveMrt U.onCreate U.onDestroy U.apply U.replay S.place S.field S.store S.freeCell S.reclaim S.replayed S.settledBy S.settled C.var C.at C.refuses C.logs C.write C.hold C.act C.value P.full P.noneFree P.wants P.settledIf P.takeCell P.doNew P.doDeed P.acted P.run P.step P.calls P.batch P.freeFrom P.fresh
 worked = tt

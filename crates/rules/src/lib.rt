@@ -111,9 +111,8 @@ pub enum Field {
     Free(usize),
 }
 
-// A call names variables, fields (0 or 1) and figures.
-pub enum Call {
-    New(usize),
+// What a call does but new and settle: it names variables, fields (0 or 1) and figures.
+pub enum Deed {
     Copy(usize, usize),
     Clear(usize),
     Link(usize, usize, usize),
@@ -122,6 +121,12 @@ pub enum Call {
     Follow(usize, usize, usize),
     Read(usize, usize),
     Same(usize, usize),
+}
+
+// A call is a new for a variable, one of the eight deeds, or a settle.
+pub enum Call {
+    New(usize),
+    Do(Deed),
     Settle,
 }
 

@@ -1,36 +1,48 @@
 -- A settle on all rows. Assumes nothing.
-use Prim.Native.Nat.{ℕ, _+_}
+use Prim.Native.Nat.{ℕ, _+_, _≤_}
 use mathlib.Core.Path.{_≡_}
-use mathlib.Core.Bool.{Bool}
+use mathlib.Core.Bool.{Bool, cond}
 use mathlib.Core.Option.{Option}
 use mathlib.Core.List.{List, map}
 use lib.ListN.{replicate}
 use lib.IntN.{ℤ}
-use Rattle.rules.specs.declared.Used.{Used}
 use Rattle.rules.specs.declared.Sizes.{Sizes}
+use Rattle.rules.specs.declared.State.{State}
 use Rattle.rules.specs.Field.{variableOf}
 use Rattle.rules.specs.Settle.{Heap, settledBy}
 use Rattle.rules.specs.Step.{settledIf}
+use Rattle.rules.specs.Rows.{Lent}
 use Rattle.rules.specs.Whole.{Whole}
-use Rattle.reclaim.specs.declared.Reclaimed.{Reclaimed}
-use Rattle.settle.specs.declared.Room.{Room}
 
--- all rows are some heap, and a row vs lent is some holds, which are counted: the heap's own variables or others
-pub record Settleable (n cap : ℕ) (ks : List ℕ) (xs vs : List ℤ) (zs ms cs log work : List ℕ) (len free : ℕ) (u : Used) : Type 0 where
+-- the rows with vs for the variables
+abbrev pub holding : List ℤ → Lent → Lent
+holding vs r = record { kinds = r .kinds; values = r .values; variables = vs; tables = r .tables; log = r .log; work = r .work }
+
+-- all rows are some heap, with some variables of its own; the row of variables that is lent is some holds, which are counted: those or others
+pub record Settleable (s : Sizes) (r : Lent) (at : State) : Type 0 where
   pub heap : Heap
   pub own : List ℤ
   pub holds : List (Option ℕ)
-  pub whole : Whole n cap ks xs own zs ms cs log work len free u heap
-  pub counted : vs ≡ map variableOf holds
+  pub whole : Whole s (holding own r) at heap
+  pub counted : r .variables ≡ map variableOf holds
+  pub few : at .freed ≤ 1000000
 
--- all rows are h after a settle that counts hs, the log's row of l and the work row are zero, and so many cells were freed
-pub record Settled (s : Sizes) (n cap : ℕ) (hs : List (Option ℕ)) (ks : List ℕ) (xs vs : List ℤ) (zs ms cs log work : List ℕ) (l : ℕ) (r : Reclaimed) (h : Heap) : Type 0 where
-  pub whole : Whole n cap ks xs vs zs ms cs log work 0 (r .first) (r .used) (settledBy s hs h)
-  pub count : settledBy s hs h .freed ≡ h .freed + r .freed
-  pub log-zero : log ≡ replicate l 0
-  pub work-zero : work ≡ replicate n 0
+-- all rows are h after a settle that counts hs, which freed at most n cells, and the work row is zero
+pub record Settled (s : Sizes) (hs : List (Option ℕ)) (r : Lent) (at : State) (h : Heap) (o : State) : Type 0 where
+  pub whole : Whole s r o (settledBy s hs h)
+  pub few : o .freed ≤ at .freed + s .n
+  pub work-zero : r .work ≡ replicate (s .n) 0
 
--- all rows are h, settled where b says so, and so many cells were freed
-pub record RoomMade (b : Bool) (s : Sizes) (n cap : ℕ) (ks : List ℕ) (xs vs : List ℤ) (zs ms cs log work : List ℕ) (r : Room) (h : Heap) : Type 0 where
-  pub whole : Whole n cap ks xs vs zs ms cs log work (r .len) (r .first) (r .used) (settledIf b s h)
-  pub count : settledIf b s h .freed ≡ h .freed + r .freed
+-- rows that are a heap are that heap after a settle, which counts the row of variables that is lent
+abbrev pub Settles : Sizes → Lent → State → Lent → State → Type 0
+Settles s r at r′ o = (own : List ℤ) (hs : List (Option ℕ)) (h : Heap) → Whole s (holding own r) at h → r .variables ≡ map variableOf hs → Settled s hs (holding own r′) at h o
+
+-- all rows are h, settled where make says so; the work row is zero where it was, else as it was
+pub record RoomMade (make : Bool) (s : Sizes) (r : Lent) (at : State) (h : Heap) (r′ : Lent) (o : State) : Type 0 where
+  pub whole : Whole s r′ o (settledIf make s h)
+  pub few : o .freed ≤ at .freed + s .n
+  pub work-is : r′ .work ≡ cond make (replicate (s .n) 0) (r .work)
+
+-- rows that are a heap are that heap, settled where make says so
+abbrev pub MakesRoom : Bool → Sizes → Lent → State → Lent → State → Type 0
+MakesRoom make s r at r′ o = (h : Heap) → Whole s r at h → RoomMade make s r at h r′ o

@@ -1,24 +1,18 @@
 // A settle: the log's replay, and the reclaiming after it.
-ghost use mathlib.Core.Path.{_≡_};
-ghost use mathlib.Core.List.{List, map};
-ghost use mathlib.Core.Option.{Option};
-ghost use Prim.Native.Nat.{ℕ, _<_};
+ghost use Prim.Native.Nat.{_<_};
 ghost use lib.ListN.{length};
-ghost use lib.IntN.{ℤ};
-ghost use Rattle.rules.specs.declared.Sizes.{Sizes};
-ghost use Rattle.rules.specs.Field.{variableOf};
-ghost use Rattle.rules.specs.Rules.{Tables, Transaction, apply, replay};
-ghost use Rattle.rules.specs.Settle.{Heap};
-ghost use Rattle.rules.specs.Whole.{Ready, Logged, Whole};
-ghost use Rattle.tables.specs.Row.{Tabled};
+ghost use Rattle.rules.specs.Rules.{apply};
+ghost use Rattle.rules.specs.Lending.{tablesNow, tableEntries, tableExits, rowsNow, entries, exits};
+ghost use Rattle.tables.specs.Row.{Tabled, TablesBy};
 ghost use Rattle.cells.specs.Log.{transaction};
-ghost use Rattle.settle.specs.Replaying.{Replayable};
-ghost use Rattle.settle.specs.Settling.{Settleable, Settled, RoomMade};
+ghost use Rattle.settle.specs.Replaying.{Replayable, Replays};
+ghost use Rattle.settle.specs.Settling.{Settleable, Settles, MakesRoom};
 use cells::clear;
 use cells::entry_at;
 use cells::mark_held;
-use reclaim::Reclaimed;
 use reclaim::reclaim;
+use rules::Sizes;
+use rules::State;
 use rules::Used;
 use tables::allocate;
 use tables::create;
@@ -34,9 +28,9 @@ fn replay_one(
     kind: u32,
     a: usize,
 ) -> Used
-    requires { ⌜ Tabled (length (now zct)) cap (now zct) (now mrt) (now counts) used ⌝ }
+    requires { ⌜ Tabled cap (tablesNow zct mrt counts) used ⌝ }
     requires { ⌜ a < length (now zct) ⌝ }
-    ensures { λ r. ⌜ ((n : ℕ) (t : Tables) → Ready n cap (now (zct .entry)) (now (mrt .entry)) (now (counts .entry)) used t → Ready n cap (now (zct .exit)) (now (mrt .exit)) (now (counts .exit)) r (apply cap (transaction kind a) t)) ⌝ }
+    ensures { λ r. ⌜ TablesBy cap (apply cap (transaction kind a)) (tableEntries zct mrt counts) used (tableExits zct mrt counts) r ⌝ }
 {
     let w = a as u32;
     if kind == 1 {
@@ -58,8 +52,8 @@ fn replay(
     used: Used,
     cap: u32,
 ) -> Used
-    requires { ⌜ Replayable (length (now zct)) cap (now log) len (now zct) (now mrt) (now counts) used ⌝ }
-    ensures { λ r. ⌜ ((n : ℕ) (xs : List Transaction) (t : Tables) → Logged n (now (log .entry)) len xs → Ready n cap (now (zct .entry)) (now (mrt .entry)) (now (counts .entry)) used t → Ready n cap (now (zct .exit)) (now (mrt .exit)) (now (counts .exit)) r (replay cap xs t)) ⌝ }
+    requires { ⌜ Replayable cap (now log) len (tablesNow zct mrt counts) used ⌝ }
+    ensures { λ r. ⌜ Replays cap (now (log .entry)) len (tableEntries zct mrt counts) used (tableExits zct mrt counts) r ⌝ }
 {
     let mut u = used;
     let mut i = 0;
@@ -83,56 +77,27 @@ pub fn settle(
     counts: &mut [u32],
     log: &mut [u32],
     work: &mut [u32],
-    len: usize,
-    first: usize,
-    used: Used,
-    cap: u32,
-) -> Reclaimed
-    requires { ⌜ Settleable (length (now zct)) cap (now kinds) (now values) (now variables) (now zct) (now mrt) (now counts) (now log) (now work) len first used ⌝ }
-    ensures { λ r. ⌜ ((s : Sizes) (n : ℕ) (own : List ℤ) (hs : List (Option ℕ)) (h : Heap) → s .n ≡ n → s .cap ≡ cap → Whole n cap (now (kinds .entry)) (now (values .entry)) own (now (zct .entry)) (now (mrt .entry)) (now (counts .entry)) (now (log .entry)) (now (work .entry)) len first used h → now (variables .entry) ≡ map variableOf hs → Settled s n cap hs (now (kinds .exit)) (now (values .exit)) own (now (zct .exit)) (now (mrt .exit)) (now (counts .exit)) (now (log .exit)) (now (work .exit)) (length (now (log .entry))) r h) ⌝ }
+    at: State,
+    sizes: Sizes,
+) -> State
+    requires { ⌜ Settleable sizes (rowsNow kinds values variables zct mrt counts log work) at ⌝ }
+    ensures { λ r. ⌜ Settles sizes (entries kinds values variables zct mrt counts log work) at (exits kinds values variables zct mrt counts log work) r ⌝ }
 {
-    let u = replay(log, len, zct, mrt, counts, used, cap);
+    let cap = sizes.cap as u32;
+    let used = at.used;
+    let u = replay(log, at.len, zct, mrt, counts, used, cap);
     clear(log);
     mark_held(variables, work);
+    let replayed = State {
+        len: 0,
+        first: at.first,
+        used: u,
+        freed: at.freed,
+    };
     let n = work.len();
-    let r = reclaim(kinds, values, zct, mrt, counts, work, first, u, cap, n);
+    let r = reclaim(kinds, values, zct, mrt, counts, work, replayed, cap, n);
     clear(work);
     r
-}
-
-// What a settle before a call leaves: the log's length too.
-pub struct Room {
-    pub first: usize,
-    pub used: Used,
-    pub len: usize,
-    pub freed: usize,
-}
-
-// What a settle left: its log is empty.
-fn emptied(r: Reclaimed) -> Room
-    ensures { λ o. ⌜ o ≡ record { first = r .first; used = r .used; len = 0; freed = r .freed } ⌝ }
-{
-    let first = r.first;
-    let used = r.used;
-    let freed = r.freed;
-    Room {
-        first: first,
-        used: used,
-        len: 0,
-        freed: freed,
-    }
-}
-
-// Where no settle was made, all is as it was.
-fn as_it_was(first: usize, used: Used, len: usize) -> Room
-    ensures { λ o. ⌜ o ≡ record { first = first; used = used; len = len; freed = 0 } ⌝ }
-{
-    Room {
-        first: first,
-        used: used,
-        len: len,
-        freed: 0,
-    }
 }
 
 // A settle where one is to be made.
@@ -146,16 +111,14 @@ pub fn settle_if(
     counts: &mut [u32],
     log: &mut [u32],
     work: &mut [u32],
-    len: usize,
-    first: usize,
-    used: Used,
-    cap: u32,
-) -> Room
-    requires { ⌜ Settleable (length (now zct)) cap (now kinds) (now values) (now variables) (now zct) (now mrt) (now counts) (now log) (now work) len first used ⌝ }
-    ensures { λ r. ⌜ ((s : Sizes) (n : ℕ) (h : Heap) → s .n ≡ n → s .cap ≡ cap → Whole n cap (now (kinds .entry)) (now (values .entry)) (now (variables .entry)) (now (zct .entry)) (now (mrt .entry)) (now (counts .entry)) (now (log .entry)) (now (work .entry)) len first used h → RoomMade make s n cap (now (kinds .exit)) (now (values .exit)) (now (variables .entry)) (now (zct .exit)) (now (mrt .exit)) (now (counts .exit)) (now (log .exit)) (now (work .exit)) r h) ⌝ }
+    at: State,
+    sizes: Sizes,
+) -> State
+    requires { ⌜ Settleable sizes (rowsNow kinds values variables zct mrt counts log work) at ⌝ }
+    ensures { λ r. ⌜ MakesRoom make sizes (entries kinds values variables zct mrt counts log work) at (exits kinds values variables zct mrt counts log work) r ⌝ }
 {
     if make {
-        let r = settle(
+        return settle(
             kinds,
             values,
             variables,
@@ -164,12 +127,9 @@ pub fn settle_if(
             counts,
             log,
             work,
-            len,
-            first,
-            used,
-            cap,
+            at,
+            sizes,
         );
-        return emptied(r);
     }
-    as_it_was(first, used, len)
+    at
 }

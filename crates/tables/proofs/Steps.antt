@@ -11,20 +11,22 @@ use lib.Dec.{eqb}
 use Rattle.rules.specs.declared.Used.{Used}
 use Rattle.rules.specs.Table.{has, insert, remove, countIn, addresses, pad}
 use Rattle.rules.specs.Rules.{Tables, Transaction, allocates, creates, destroys, enterZct, leaveZct, enterMrt, leaveMrt, onCreate, onDestroy, apply}
+use Rattle.rules.specs.Rows.{TableRows, tableRows}
 use Rattle.rules.specs.Whole.{Is, Kept, Ready}
-use Rattle.rules.proofs.Invariant.{named}
+use Rattle.rules.specs.Invariant.{named}
+use Rattle.rules.specs.Rows.{Bounds}
 use Rattle.rules.proofs.Sorted.{insert-up, all-insert, leaveZct-kept, apply-kept}
-use Rattle.tables.specs.Row.{cut, Listed, Counted, Pair, Tabled}
+use Rattle.tables.specs.Row.{cut, Listed, Counted, Pair, Tabled, RowBy, MrtBy, TablesBy, ZctBy}
 use Rattle.tables.proofs.Places.{place-at, has-at, remove-cut, count-none}
 use Rattle.tables.proofs.Single.{is-take, is-padded, is-listed, cut-is}
 use Rattle.tables.proofs.Pairs.{pair-count, count-is}
 
 -- rows that are tables over addresses below n, as the code wants them
-module _ {n cap : ℕ} {zs ms cs : List ℕ} {u : Used} {t : Tables} (R : Ready n cap zs ms cs u t) where
-  pub zct-listed : Listed zs (u .zct)
+module _ {n cap : ℕ} {r : TableRows} {u : Used} {t : Tables} (R : Ready n cap r u t) where
+  pub zct-listed : Listed (r .zct) (u .zct)
   zct-listed = is-listed (R .are .zct-is) (R .kept .zct-up) (R .kept .zct-below)
 
-  pub mrt-counted : 3 ≤ cap → Counted cap ms cs (u .mrt)
+  pub mrt-counted : 3 ≤ cap → Counted cap (r .mrt) (r .counts) (u .mrt)
   mrt-counted big = record {
     listed = is-listed (R .are .mrt-is) (R .kept .mrt-up) (R .kept .mrt-below);
     beside = is-padded (R .are .counts-is);
@@ -33,34 +35,35 @@ module _ {n cap : ℕ} {zs ms cs : List ℕ} {u : Used} {t : Tables} (R : Ready 
     big = big;
   }
 
-  pub mrt-pair : Pair n ms cs (u .mrt) (t .mrt)
+  pub mrt-pair : Pair n (r .mrt) (r .counts) (u .mrt) (t .mrt)
   mrt-pair = record { mrt-is = R .are .mrt-is; counts-is = R .are .counts-is }
 
-  pub zct-has : (a : ℕ) {b : Bool} → has a (take (u .zct) zs) ≡ b → has a (t .zct) ≡ b
+  pub zct-has : (a : ℕ) {b : Bool} → has a (take (u .zct) (r .zct)) ≡ b → has a (t .zct) ≡ b
   zct-has a h = rw (is-take (R .are .zct-is)) at h
 
-  pub mrt-has : (a : ℕ) {b : Bool} → has a (take (u .mrt) ms) ≡ b → has a (addresses (t .mrt)) ≡ b
+  pub mrt-has : (a : ℕ) {b : Bool} → has a (take (u .mrt) (r .mrt)) ≡ b → has a (addresses (t .mrt)) ≡ b
   mrt-has a h = rw (is-take (R .are .mrt-is)) at h
 
   -- they are some tables
-  pub tabled : Bounds n cap → Tabled (length zs) cap zs ms cs u
-  tabled B = rw (R .are .zct-is .long) (record { bounds = B; tables = t; ready = R })
+  pub tabled : n ≤ 1024 → 3 ≤ cap → Tabled cap r u
+  tabled most big = let l = R .are .zct-is .long in record { most = omega arith; big = big; tables = t; ready = rw l R }
 
 -- rows of zeros are empty tables
 zero-row : (n : ℕ) → Is n (replicate n 0) 0 []
 zero-row n = record { long = length-replicate n 0; count = refl; padded = rw (sub-zero n) }
 
-pub fresh-ready : (n cap : ℕ) → Ready n cap (replicate n 0) (replicate n 0) (replicate n 0) (record { zct = 0; mrt = 0 }) (record { zct = []; mrt = [] })
+pub fresh-ready : (n cap : ℕ) → Ready n cap (tableRows (replicate n 0) (replicate n 0) (replicate n 0)) (record { zct = 0; mrt = 0 }) (record { zct = []; mrt = [] })
 fresh-ready n cap = record {
   are = record { zct-is = zero-row n; mrt-is = zero-row n; counts-is = zero-row n };
   kept = record { zct-up = tt; zct-below = tt; mrt-up = tt; mrt-below = tt; mrt-counts = tt };
 }
 
 -- the entry at place p of ZCT is cut out
-pub left : {n cap p r : ℕ} {zs zs′ ms cs : List ℕ} {u : Used} {t : Tables} → 3 ≤ cap → Ready n cap zs ms cs u t → p < u .zct → r ≡ u .zct - 1
-    → zs′ ≡ pad (length zs) (cut p (take (u .zct) zs)) → Ready n cap zs′ ms cs (record { zct = r; mrt = u .mrt }) (leaveZct (getD zs p 0) t)
+pub left : {cap p k : ℕ} {r : TableRows} {zs : List ℕ} {u : Used} → 3 ≤ cap → p < u .zct → k ≡ u .zct - 1 → zs ≡ pad (length (r .zct)) (cut p (take (u .zct) (r .zct)))
+    → TablesBy cap (leaveZct (getD (r .zct) p 0)) r u (tableRows zs (r .mrt) (r .counts)) (record { zct = k; mrt = u .mrt })
 unfolding leaveZct
-left {n} {cap} {p} {r} {zs} {u = u} {t = t} big R h l x =
+left {cap} {p} {r = r} {u = u} big h l x n t R =
+    let zs = r .zct in
     let I = R .are .zct-is in
     let k = I .count in
     let w : p < length (t .zct) = omega arith in
@@ -73,10 +76,10 @@ left {n} {cap} {p} {r} {zs} {u = u} {t = t} big R h l x =
     }
 
 -- an allocate
-pub allocated : {zs zs′ : List ℕ} {u : Used} {r : ℕ} (a : ℕ) → a < length zs → ((n : ℕ) (z : List ℕ) → Is n zs (u .zct) z → Is n zs′ r (insert a z))
-    → (n cap : ℕ) (ms cs : List ℕ) (t : Tables) → Ready n cap zs ms cs u t → Ready n cap zs′ ms cs (record { zct = r; mrt = u .mrt }) (apply cap (allocates a) t)
+pub allocated : {zs zs′ : List ℕ} {u : Used} {k : ℕ} (a : ℕ) → a < length zs → RowBy (insert a) zs (u .zct) zs′ k
+    → ZctBy (λ cap. apply cap (allocates a)) zs u zs′ (record { zct = k; mrt = u .mrt })
 unfolding apply enterZct
-allocated a small f n cap ms cs t R = record {
+allocated a small f cap ms cs n t R = record {
   are = record { zct-is = f n (t .zct) (R .are .zct-is); mrt-is = R .are .mrt-is; counts-is = R .are .counts-is };
   kept = record {
     zct-up = insert-up a (t .zct) (R .kept .zct-up);
@@ -108,26 +111,26 @@ destroy-zct cap a t (suc k) h = go (eqb (suc k) cap) (eqb k 1)
     go false false = refl
 
 -- a create and a destroy, of a below the rows' length
-module _ {cap : ℕ} {zs ms cs : List ℕ} {u : Used} (T : Tabled (length zs) cap zs ms cs u) (a : ℕ) (small : a < length zs) where
-  pub mrt-small : a < length ms
+module _ {cap : ℕ} {r : TableRows} {u : Used} (T : Tabled cap r u) (a : ℕ) (small : a < length (r .zct)) where
+  pub mrt-small : a < length (r .mrt)
   mrt-small = rw (T .ready .are .mrt-is .long) small
 
-  kept : (x : Transaction) {n : ℕ} {t : Tables} → named x ≡ a → Ready n cap zs ms cs u t → Kept n cap (apply cap x t)
+  kept : (x : Transaction) {n : ℕ} {t : Tables} → named x ≡ a → Ready n cap r u t → Kept n cap (apply cap x t)
   kept x {n} {t} e R =
       let l = R .are .zct-is .long in
-      apply-kept n cap (T .bounds .big) t (R .kept) x (omega arith)
+      apply-kept n cap (T .big) t (R .kept) x (omega arith)
 
-  pub created-zct : {zs′ : List ℕ} {r : ℕ} → has a (take (u .zct) zs) ≡ true → ((n : ℕ) (z : List ℕ) → Is n zs (u .zct) z → Is n zs′ r (remove a z))
-      → (n : ℕ) (t : Tables) → Ready n cap zs ms cs u t → Ready n cap zs′ ms cs (record { zct = r; mrt = u .mrt }) (apply cap (creates a) t)
+  pub created-zct : {zs : List ℕ} {k : ℕ} → has a (take (u .zct) (r .zct)) ≡ true → RowBy (remove a) (r .zct) (u .zct) zs k
+      → TablesBy cap (apply cap (creates a)) r u (tableRows zs (r .mrt) (r .counts)) (record { zct = k; mrt = u .mrt })
   unfolding apply onCreate leaveZct
   created-zct h f n t R = record {
     are = rw (zct-has R a h) (record { zct-is = f n (t .zct) (R .are .zct-is); mrt-is = R .are .mrt-is; counts-is = R .are .counts-is });
     kept = kept (creates a) refl R;
   }
 
-  pub created-mrt : {ms′ cs′ : List ℕ} {r : ℕ} → has a (take (u .zct) zs) ≡ false
-      → ((n : ℕ) (t : Tables) → Pair n ms cs (u .mrt) (t .mrt) → Pair n ms′ cs′ r (onCreate cap a t false (countIn a (t .mrt)) .mrt))
-      → (n : ℕ) (t : Tables) → Ready n cap zs ms cs u t → Ready n cap zs ms′ cs′ (record { zct = u .zct; mrt = r }) (apply cap (creates a) t)
+  pub created-mrt : {ms cs : List ℕ} {k : ℕ} → has a (take (u .zct) (r .zct)) ≡ false
+      → MrtBy (λ t. onCreate cap a t false (countIn a (t .mrt))) (r .mrt) (r .counts) (u .mrt) ms cs k
+      → TablesBy cap (apply cap (creates a)) r u (tableRows (r .zct) ms cs) (record { zct = u .zct; mrt = k })
   unfolding apply
   created-mrt h f n t R =
       let P = f n t (mrt-pair R) in
@@ -136,21 +139,21 @@ module _ {cap : ℕ} {zs ms cs : List ℕ} {u : Used} (T : Tabled (length zs) ca
         kept = kept (creates a) refl R;
       }
 
-  pub destroyed-zct : {zs′ : List ℕ} {r : ℕ} → has a (take (u .mrt) ms) ≡ false → ((n : ℕ) (z : List ℕ) → Is n zs (u .zct) z → Is n zs′ r (insert a z))
-      → (n : ℕ) (t : Tables) → Ready n cap zs ms cs u t → Ready n cap zs′ ms cs (record { zct = r; mrt = u .mrt }) (apply cap (destroys a) t)
+  pub destroyed-zct : {zs : List ℕ} {k : ℕ} → has a (take (u .mrt) (r .mrt)) ≡ false → RowBy (insert a) (r .zct) (u .zct) zs k
+      → TablesBy cap (apply cap (destroys a)) r u (tableRows zs (r .mrt) (r .counts)) (record { zct = k; mrt = u .mrt })
   unfolding apply onDestroy enterZct
   destroyed-zct h f n t R = record {
     are = rw (count-none a (t .mrt) (mrt-has R a h)) (record { zct-is = f n (t .zct) (R .are .zct-is); mrt-is = R .are .mrt-is; counts-is = R .are .counts-is });
     kept = kept (destroys a) refl R;
   }
 
-  pub destroyed-mrt : {ms′ cs′ : List ℕ} {r : ℕ} → has a (take (u .mrt) ms) ≡ true
-      → ((n : ℕ) (t : Tables) → Pair n ms cs (u .mrt) (t .mrt) → Pair n ms′ cs′ r (onDestroy cap a t (countIn a (t .mrt)) .mrt))
-      → (n : ℕ) (t : Tables) → Ready n cap zs ms cs u t → Ready n cap zs ms′ cs′ (record { zct = u .zct; mrt = r }) (apply cap (destroys a) t)
+  pub destroyed-mrt : {ms cs : List ℕ} {k : ℕ} → has a (take (u .mrt) (r .mrt)) ≡ true
+      → MrtBy (λ t. onDestroy cap a t (countIn a (t .mrt))) (r .mrt) (r .counts) (u .mrt) ms cs k
+      → TablesBy cap (apply cap (destroys a)) r u (tableRows (r .zct) ms cs) (record { zct = u .zct; mrt = k })
   unfolding apply
   destroyed-mrt h f n t R =
       let P = f n t (mrt-pair R) in
-      let C = mrt-counted R (T .bounds .big) in
+      let C = mrt-counted R (T .big) in
       let c = pair-count C a _ refl h in
       let e = count-is C a _ refl h (mrt-pair R) in
       record {

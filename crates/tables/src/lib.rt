@@ -1,13 +1,13 @@
 // The rows of the zero count table and of the multireference table.
 ghost use mathlib.Core.Path.{_≡_};
 ghost use mathlib.Core.Bool.{true, false};
-ghost use mathlib.Core.List.{List, [], _∷_, _++_};
-ghost use Prim.Native.Nat.{ℕ, _+_, _-_, _≤_, _<_};
+ghost use mathlib.Core.List.{[], _∷_, _++_};
+ghost use Prim.Native.Nat.{_+_, _-_, _≤_, _<_};
 ghost use lib.ListN.{length, take, drop};
 ghost use Rattle.rules.specs.Table.{Ascending, has, pad, insert, remove, countIn};
-ghost use Rattle.rules.specs.Rules.{Tables, allocates, creates, destroys, onCreate, onDestroy, apply};
-ghost use Rattle.rules.specs.Whole.{Is, Ready};
-ghost use Rattle.tables.specs.Row.{place, put, cut, Moved, Padded, Listed, Counted, Pair, Tabled};
+ghost use Rattle.rules.specs.Rules.{allocates, creates, destroys, onCreate, onDestroy, apply};
+ghost use Rattle.rules.specs.Lending.{tablesNow, tableEntries, tableExits};
+ghost use Rattle.tables.specs.Row.{place, put, cut, Moved, Padded, Listed, Counted, Tabled, RowBy, MrtBy, TablesBy, ZctBy};
 use rules::Used;
 
 // The place of the first of row's used entries that is not below a.
@@ -94,7 +94,7 @@ fn is_at(row: &[u32], used: usize, p: usize, a: u32) -> bool
 fn enter(row: &mut [u32], used: usize, a: u32) -> usize
     requires { ⌜ Listed (now row) used ⌝ }
     requires { ⌜ a < length (now row) ⌝ }
-    ensures { λ r. ⌜ ((n : ℕ) (z : List ℕ) → Is n (now (row .entry)) used z → Is n (now (row .exit)) r (insert a z)) ⌝ }
+    ensures { λ r. ⌜ RowBy (insert a) (now (row .entry)) used (now (row .exit)) r ⌝ }
 {
     let p = find(row, used, a);
     if is_at(row, used, p, a) {
@@ -107,7 +107,7 @@ fn enter(row: &mut [u32], used: usize, a: u32) -> usize
 fn leave(row: &mut [u32], used: usize, a: u32) -> usize
     requires { ⌜ Listed (now row) used ⌝ }
     requires { ⌜ has a (take used (now row)) ≡ true ⌝ }
-    ensures { λ r. ⌜ ((n : ℕ) (z : List ℕ) → Is n (now (row .entry)) used z → Is n (now (row .exit)) r (remove a z)) ⌝ }
+    ensures { λ r. ⌜ RowBy (remove a) (now (row .entry)) used (now (row .exit)) r ⌝ }
 {
     let p = find(row, used, a);
     cut_at(row, used, p)
@@ -133,7 +133,7 @@ fn lower(cap: u32, c: u32) -> u32
 fn count_up(mrt: &mut [u32], counts: &mut [u32], used: usize, cap: u32, a: u32) -> usize
     requires { ⌜ Counted cap (now mrt) (now counts) used ⌝ }
     requires { ⌜ a < length (now mrt) ⌝ }
-    ensures { λ r. ⌜ ((n : ℕ) (t : Tables) → Pair n (now (mrt .entry)) (now (counts .entry)) used (t .mrt) → Pair n (now (mrt .exit)) (now (counts .exit)) r (onCreate cap a t false (countIn a (t .mrt)) .mrt)) ⌝ }
+    ensures { λ r. ⌜ MrtBy (λ t. onCreate cap a t false (countIn a (t .mrt))) (now (mrt .entry)) (now (counts .entry)) used (now (mrt .exit)) (now (counts .exit)) r ⌝ }
 {
     let p = find(mrt, used, a);
     if is_at(mrt, used, p, a) {
@@ -149,7 +149,7 @@ fn count_up(mrt: &mut [u32], counts: &mut [u32], used: usize, cap: u32, a: u32) 
 fn count_down(mrt: &mut [u32], counts: &mut [u32], used: usize, cap: u32, a: u32) -> usize
     requires { ⌜ Counted cap (now mrt) (now counts) used ⌝ }
     requires { ⌜ has a (take used (now mrt)) ≡ true ⌝ }
-    ensures { λ r. ⌜ ((n : ℕ) (t : Tables) → Pair n (now (mrt .entry)) (now (counts .entry)) used (t .mrt) → Pair n (now (mrt .exit)) (now (counts .exit)) r (onDestroy cap a t (countIn a (t .mrt)) .mrt)) ⌝ }
+    ensures { λ r. ⌜ MrtBy (λ t. onDestroy cap a t (countIn a (t .mrt))) (now (mrt .entry)) (now (counts .entry)) used (now (mrt .exit)) (now (counts .exit)) r ⌝ }
 {
     let p = find(mrt, used, a);
     let c = counts[p];
@@ -165,7 +165,7 @@ fn count_down(mrt: &mut [u32], counts: &mut [u32], used: usize, cap: u32, a: u32
 pub fn allocate(zct: &mut [u32], used: Used, a: u32) -> Used
     requires { ⌜ Listed (now zct) (used .zct) ⌝ }
     requires { ⌜ a < length (now zct) ⌝ }
-    ensures { λ r. ⌜ ((n cap : ℕ) (ms cs : List ℕ) (t : Tables) → Ready n cap (now (zct .entry)) ms cs used t → Ready n cap (now (zct .exit)) ms cs r (apply cap (allocates a) t)) ⌝ }
+    ensures { λ r. ⌜ ZctBy (λ cap. apply cap (allocates a)) (now (zct .entry)) used (now (zct .exit)) r ⌝ }
 {
     let z = enter(zct, used.zct, a);
     Used {
@@ -183,9 +183,9 @@ pub fn create(
     cap: u32,
     a: u32,
 ) -> Used
-    requires { ⌜ Tabled (length (now zct)) cap (now zct) (now mrt) (now counts) used ⌝ }
+    requires { ⌜ Tabled cap (tablesNow zct mrt counts) used ⌝ }
     requires { ⌜ a < length (now zct) ⌝ }
-    ensures { λ r. ⌜ ((n : ℕ) (t : Tables) → Ready n cap (now (zct .entry)) (now (mrt .entry)) (now (counts .entry)) used t → Ready n cap (now (zct .exit)) (now (mrt .exit)) (now (counts .exit)) r (apply cap (creates a) t)) ⌝ }
+    ensures { λ r. ⌜ TablesBy cap (apply cap (creates a)) (tableEntries zct mrt counts) used (tableExits zct mrt counts) r ⌝ }
 {
     let zused = used.zct;
     let mused = used.mrt;
@@ -207,9 +207,9 @@ pub fn destroy(
     cap: u32,
     a: u32,
 ) -> Used
-    requires { ⌜ Tabled (length (now zct)) cap (now zct) (now mrt) (now counts) used ⌝ }
+    requires { ⌜ Tabled cap (tablesNow zct mrt counts) used ⌝ }
     requires { ⌜ a < length (now zct) ⌝ }
-    ensures { λ r. ⌜ ((n : ℕ) (t : Tables) → Ready n cap (now (zct .entry)) (now (mrt .entry)) (now (counts .entry)) used t → Ready n cap (now (zct .exit)) (now (mrt .exit)) (now (counts .exit)) r (apply cap (destroys a) t)) ⌝ }
+    ensures { λ r. ⌜ TablesBy cap (apply cap (destroys a)) (tableEntries zct mrt counts) used (tableExits zct mrt counts) r ⌝ }
 {
     let zused = used.zct;
     let mused = used.mrt;

@@ -7,6 +7,7 @@ ghost use Rattle.rules.specs.Call.{callOf, given, isBelow, isNought};
 ghost use Rattle.words.specs.Words.{decodedAs, isSome, callAt, Decides};
 use cells::address;
 use rules::Call;
+use rules::Deed;
 
 // What four words are: a call, or none.
 pub enum Decoded {
@@ -106,26 +107,32 @@ pub fn call_of(op: i32, a: i32, b: i32, c: i32, m: usize) -> Decoded
         1 => given(one_variable(a, b, c, m), Call::New(address(a))),
         2 => given(
             two_variables(a, b, c, m),
-            Call::Copy(address(a), address(b)),
+            Call::Do(Deed::Copy(address(a), address(b))),
         ),
-        3 => given(one_variable(a, b, c, m), Call::Clear(address(a))),
+        3 => given(one_variable(a, b, c, m), Call::Do(Deed::Clear(address(a)))),
         4 => given(
             field_and_variable(a, b, c, m),
-            Call::Link(address(a), address(b), address(c)),
+            Call::Do(Deed::Link(address(a), address(b), address(c))),
         ),
         5 => given(
             field_and_figure(a, b, m),
-            Call::Put(address(a), address(b), c),
+            Call::Do(Deed::Put(address(a), address(b), c)),
         ),
-        6 => given(one_field(a, b, c, m), Call::Blank(address(a), address(b))),
+        6 => given(
+            one_field(a, b, c, m),
+            Call::Do(Deed::Blank(address(a), address(b))),
+        ),
         7 => given(
             field_and_variable(a, b, c, m),
-            Call::Follow(address(a), address(b), address(c)),
+            Call::Do(Deed::Follow(address(a), address(b), address(c))),
         ),
-        8 => given(one_field(a, b, c, m), Call::Read(address(a), address(b))),
+        8 => given(
+            one_field(a, b, c, m),
+            Call::Do(Deed::Read(address(a), address(b))),
+        ),
         9 => given(
             two_variables(a, b, c, m),
-            Call::Same(address(a), address(b)),
+            Call::Do(Deed::Same(address(a), address(b))),
         ),
         10 => given(no_words(a, b, c), Call::Settle),
     }

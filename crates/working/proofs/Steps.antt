@@ -21,7 +21,7 @@ use Rattle.calls.specs.Doing.{acted, Did, Able}
 use Rattle.rules.specs.declared.Used.{Used}
 use Rattle.rules.specs.Whole.{Whole}
 use Rattle.rules.proofs.Tests.{not-first}
-use Rattle.rules.proofs.Invariant.{Inv}
+use Rattle.rules.specs.Invariant.{Inv}
 use Rattle.rules.proofs.Fine.{Fine}
 use Rattle.rules.proofs.Calls.{Fits, logs-long}
 use Rattle.rules.proofs.Step.{settledIf-inv, settledIf-room, room-check, step-inv}

@@ -18,7 +18,7 @@ use Rattle.rules.specs.Step as rules
 use Rattle.rules.specs.Rows.{Lent, rowsOf, headOf}
 use Rattle.rules.specs.Whole.{Whole}
 use Rattle.rules.specs.Refusals.{outcome, answered}
-use Rattle.rules.proofs.Invariant.{Inv}
+use Rattle.rules.specs.Invariant.{Inv}
 use Rattle.rules.proofs.Fine.{Fine}
 use Rattle.rules.proofs.Calls.{Fits}
 use Rattle.words.specs.Words.{callAt}

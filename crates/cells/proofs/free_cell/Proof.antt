@@ -30,8 +30,9 @@ same-length-2 c = search needs
 
 returns : tie.Need-returns
 returns c =
+    let after-put-field : tie.After-put-field = search needs in
     let q = c .before .before .before in
-    let p = q .before .before .before .before .before .before in
+    let p = after-put-field in
     let s = p .before .before .before .before .args in
     let a = s .a in
     let x = p .put-field .ensures in

@@ -39,9 +39,11 @@ loop-less c = search needs
 
 loop-again : tie.Need-loop-again Inv-loop μ-loop
 loop-again c =
-    let s = c .before .before .before .before .before .before .before .before .before in
-    let v = c .before .before .before .before .before .before .before .loop .inv in
-    let t = c .before .before .before .before .before .before .loop-test .taken in
+    let start : tie.Start Inv-loop μ-loop = search needs in
+    let in-loop : tie.In-loop Inv-loop μ-loop = search needs in
+    let s = start in
+    let v = in-loop .before .loop .inv in
+    let t = in-loop .loop-test .taken in
     let r = c .before .before .before .free-cell in
     let p = s .pre in (
       omega arith,

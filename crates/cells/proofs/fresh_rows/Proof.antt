@@ -49,23 +49,29 @@ same-length-7 c = search needs
 same-length-8 : tie.Need-same-length-8
 same-length-8 c = search needs
 
+-- the places of the function, one after the other
+abbrev start : tie.After-fresh-cells → tie.Start
+start c = search needs
+
+abbrev cells : tie.After-clear → tie.After-fresh-cells
+cells c = search needs
+
+abbrev counted : tie.After-clear5 → tie.After-clear3
+counted c = search needs
+
+abbrev entered : tie.After-clear3 → tie.After-clear
+entered c = search needs
+
 returns : tie.Need-returns
 returns c =
-    let p = c .before .before .before .before .before .before .before .before .before .before .before .before .before .before .before .before .before .before .before .before .before .before .before .before .before .before .before .before .before .before .before .before .before .before .before .pre in
-    let f = c .before .before .before .before .before .before .before .before .before .before .before .before .before .before .before .before .before .before .before .before .before .before .before .before .before .before .fresh-cells .ensures in
-    rows-fresh
-    (f .0)
-    (f .1)
-    (c .before .before .before .before .before .before .before .before .before .before .before .before .before .before .before .before .before .before .before .before .before .fill-nothing .ensures)
-    (c .before .before .before .before .before .before .before .before .before .before .before .before .before .before .before .before .before .before .clear .ensures)
-    (c .before .before .before .before .before .before .before .before .before .before .before .before .before .before .clear2 .ensures)
-    (c .before .before .before .before .before .before .before .before .before .before .clear3 .ensures)
-    (c .before .before .before .before .before .before .clear4 .ensures)
-    (c .before .before .clear5 .ensures)
-    (p .zct-long)
-    (p .mrt-long)
-    (p .counts-long)
-    (p .work-long)
+    let w : tie.After-clear5 = search needs in
+    let l : tie.After-clear4 = search needs in
+    let k = counted w in
+    let m : tie.After-clear2 = search needs in
+    let z = entered k in
+    let v : tie.After-fill-nothing = search needs in
+    let f = cells z in
+    rows-fresh (start f .pre) (f .fresh-cells .ensures .0) (f .fresh-cells .ensures .1) (v .fill-nothing .ensures) (z .clear .ensures) (m .clear2 .ensures) (k .clear3 .ensures) (l .clear4 .ensures) (w .clear5 .ensures)
 
 pub fresh-rows-spec : {M : Type 1} → statement M
 fresh-rows-spec =

@@ -17,7 +17,6 @@ enum-known-old : tie.Need-enum-known-old
 enum-known-old c = search needs
 
 add-entry-requires : tie.Need-add-entry-requires
-unfolding drops
 add-entry-requires c κs =
     let e = c .before .before .old .given .1 in
     let p = c .before .before .before .before .before .pre in
@@ -29,25 +28,22 @@ enum-told-3 : tie.Need-enum-told-3
 enum-told-3 c = search needs
 
 returns : tie.Need-returns
-unfolding drops
 returns c = rw (c .enum-told .given .1) (omega arith, λ n xs L I. logged-same L)
 
 returns-2 : tie.Need-returns-2
-unfolding drops
 returns-2 c = rw (c .enum-told2 .given .1) (omega arith, λ n xs L I. logged-same L)
 
 same-length : tie.Need-same-length
 same-length c = search needs
 
 returns-3 : tie.Need-returns-3
-unfolding drops transaction
+unfolding transaction
 returns-3 c =
     let e = c .before .before .before .before .before .old .given .1 in
     let r = c .before .before .add-entry .ensures in
     rw e (r .0, r .1)
 
 returns-4 : tie.Need-returns-4
-unfolding drops
 returns-4 c = rw (c .enum-told3 .given .1) (omega arith, λ n xs L I. logged-same L)
 
 pub log-old-spec : {M : Type 1} → statement M

@@ -39,9 +39,10 @@ loop-less c = search needs
 
 loop-again : tie.Need-loop-again Inv-loop μ-loop
 loop-again c =
+    let at-loop : tie.At-loop Inv-loop μ-loop = search needs in
     let m = c .before .before .mark in
     let h = c .before .before .before .before .held in
-    let l = c .before .before .before .before .before .before .loop in
+    let l = at-loop .loop in
     let t = c .before .before .before .before .before .loop-test .taken in
     (marked-next _ _ _ _ _ _ t (l .inv .0) (h .ensures) (m .ensures), omega arith)
 

@@ -24,8 +24,10 @@ same-length-2 c = search needs
 
 returns : tie.Need-returns
 returns c =
-    let s = c .before .before .before .before .before .before .before .before .before .before .before in
-    let x = c .before .before .before .before .before .before .before .field-at in
+    let start : tie.Start = search needs in
+    let after-field-at : tie.After-field-at = search needs in
+    let s = start in
+    let x = after-field-at .field-at in
     let y = c .before .before .before .before .put-field .ensures in
     λ n fs C. taken (s .args .a) _ (x .result) C (x .ensures) (c .after-field .ensures) (y .0) (y .1)
 

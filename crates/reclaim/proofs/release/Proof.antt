@@ -1,6 +1,7 @@
 -- `settle::release` meets its contract: out of ZCT, then both fields let go in their order. Assumes nothing.
 use mathlib.Core.Path.{sym, _∙_}
 use Rattle.rules.proofs.Sorted.{replay-append}
+use borrow.Author.Needs.{needs}
 use Rattle.tables.proofs.Single.{is-padded}
 use Rattle.tables.proofs.Steps.{left, tabled}
 use Rattle.reclaim.proofs.Freeing.{inside-as}
@@ -8,42 +9,40 @@ use Rattle.reclaim.proofs.release.Statement.{statement}
 use Rattle.reclaim.proofs.release.Tie as tie
 
 cut-at-requires : tie.Need-cut-at-requires
-cut-at-requires c κs = let s = c .before .before .before .before in
+cut-at-requires c κs = let s : tie.Start = search needs in
     (is-padded (s .pre .0 .ready .are .zct-is), s .pre .1 .0)
 
 let-go-requires : tie.Need-let-go-requires
-let-go-requires c κs = let k = c .before .before .before .before .before .cut-at in
-    let s = c .before .before .before .before .before .before .before .before .before .before in
+let-go-requires c κs = let k : tie.After-cut-at = search needs in
+    let s : tie.Start = search needs in
     let T = s .pre .0 in
-    let R = left (T .bounds .big) (T .ready) (s .pre .1 .0) (k .ensures .0) (k .ensures .1) in
-    let X = inside-as (s .args .x) (sym (R .are .zct-is .long)) (s .pre .1 .1 .0) in
-    (tabled R (T .bounds), X)
+    let R = left (T .big) (s .pre .1 .0) (k .cut-at .ensures .0) (k .cut-at .ensures .1) _ _ (T .ready) in
+    (tabled R (T .most) (T .big), inside-as (s .args .x) (sym (R .are .zct-is .long)) (s .pre .1 .1 .0))
 
 let-go-requires-2 : tie.Need-let-go-requires-2
-let-go-requires-2 c κs = let g = c .before .before .before .before .before .before .before .before .before in
-    let k = g .before .before .before .before .before .before .cut-at in
-    let s = g .before .before .before .before .before .before .before .before .before .before .before in
+let-go-requires-2 c κs = let g : tie.After-let-go = search needs in
+    let k : tie.After-cut-at = search needs in
+    let s : tie.Start = search needs in
     let T = s .pre .0 in
-    let R = g .let-go .ensures _ _ (left (T .bounds .big) (T .ready) (s .pre .1 .0) (k .ensures .0) (k .ensures .1)) in
-    let Y = inside-as (s .args .y) (sym (R .are .zct-is .long)) (s .pre .1 .1 .1) in
-    (tabled R (T .bounds), Y)
+    let R = g .let-go .ensures _ _ (left (T .big) (s .pre .1 .0) (k .cut-at .ensures .0) (k .cut-at .ensures .1) _ _ (T .ready)) in
+    (tabled R (T .most) (T .big), inside-as (s .args .y) (sym (R .are .zct-is .long)) (s .pre .1 .1 .1))
 
 same-length : tie.Need-same-length
-same-length c = c .before .before .before .before .before .zct3 .given ∙ c .before .before .before .before .before .before .before .before .before .before .before .before .before .before .before .zct2 .given ∙ c .before .before .before .before .before .before .before .before .before .before .before .before .before .before .before .before .before .before .before .before .before .zct .given
+same-length c = search needs
 
 same-length-2 : tie.Need-same-length-2
-same-length-2 c = c .before .before .before .mrt2 .given ∙ c .before .before .before .before .before .before .before .before .before .before .before .before .before .mrt .given
+same-length-2 c = search needs
 
 same-length-3 : tie.Need-same-length-3
-same-length-3 c = c .before .counts2 .given ∙ c .before .before .before .before .before .before .before .before .before .before .before .counts .given
+same-length-3 c = search needs
 
 returns : tie.Need-returns
-returns c = let d = c .before .before .before .before .before .before in
-    let g = d .before .before .before .before .before .before .before .before .before .before in
-    let k = g .before .before .before .before .before .before .cut-at in
-    let s = g .before .before .before .before .before .before .before .before .before .before .before in
+returns c = let d : tie.After-let-go2 = search needs in
+    let g : tie.After-let-go = search needs in
+    let k : tie.After-cut-at = search needs in
+    let s : tie.Start = search needs in
     λ n t R.
-    rw replay-append (d .let-go2 .ensures _ _ (g .let-go .ensures _ _ (left (s .pre .0 .bounds .big) R (s .pre .1 .0) (k .ensures .0) (k .ensures .1))))
+    rw replay-append (d .let-go2 .ensures _ _ (g .let-go .ensures _ _ (left (s .pre .0 .big) (s .pre .1 .0) (k .cut-at .ensures .0) (k .cut-at .ensures .1) _ _ R)))
 
 pub release-spec : {M : Type 1} → statement M
 release-spec =

@@ -39,7 +39,8 @@ number-requires c κs = search needs
 
 returns-3 : tie.Need-returns-3
 returns-3 c =
-    let s = c .before .before .before .before .before .before .before .args .s .now in
+    let start : tie.Start = search needs in
+    let s = start .args .s .now in
     let o = numberOf (drop 1 s) in
     let e = c .before .number .ensures ∙ ap (λ (l : List ℕ). capped (numberOf l)) (rest-part s) in
     let m = figure-minus s (c .before .before .before .before .before .if1 .left) (c .before .before .before .if2 .left) in
@@ -47,10 +48,11 @@ returns-3 c =
 
 returns-4 : tie.Need-returns-4
 returns-4 c =
-    let s = c .before .before .before .before .before .before .before .before .args .s .now in
+    let else1 : tie.Else1 = search needs in
+    let s = else1 .before .before .args .s .now in
     let o = numberOf (drop 1 s) in
     let e = c .before .before .number .ensures ∙ ap (λ (l : List ℕ). capped (numberOf l)) (rest-part s) in
-    let m = figure-minus s (c .before .before .before .before .before .before .if1 .left) (c .before .before .before .before .if2 .left) in
+    let m = figure-minus s (else1 .if1 .left) (c .before .before .before .before .if2 .left) in
     sym (ap asWord (m ∙ minus-much o (omega arith)))
 
 sub-t3 : tie.Need-sub-t3
@@ -64,10 +66,11 @@ sub-t11 c = minus-fits (c .before .before .number .result - 1) (omega arith)
 
 returns-5 : tie.Need-returns-5
 returns-5 c =
-    let s = c .before .before .before .before .before .before .before .before .args .s .now in
+    let else1 : tie.Else1 = search needs in
+    let s = else1 .before .before .args .s .now in
     let o = numberOf (drop 1 s) in
     let e = c .before .before .number .ensures ∙ ap (λ (l : List ℕ). capped (numberOf l)) (rest-part s) in
-    let m = figure-minus s (c .before .before .before .before .before .before .if1 .left) (c .before .before .before .before .if2 .left) in
+    let m = figure-minus s (else1 .if1 .left) (c .before .before .before .before .if2 .left) in
     let r = c .before .before .number .result in
     let z = c .before .if3 .left in
     ap Number (minus-is (r - 1) (omega arith) ∙ ap (λ (k : ℕ). negsuc (k - 1)) e) ∙ sym (ap asWord (m ∙ minus-some o (λ q. z (e ∙ q)) (omega arith)))

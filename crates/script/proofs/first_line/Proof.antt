@@ -32,11 +32,15 @@ heap-line-requires c κs = search needs
 
 returns-3 : tie.Need-returns-3
 returns-3 c =
+    let start : tie.Start = search needs in
+    let after-fields : tie.After-fields = search needs in
     c .heap-line .ensures
-    ∙ sym (head-word (c .before .before .before .before .before .before .before .before .before .args .line .now) true (omega arith) (sym (c .before .before .before .before .before .before .fields .ensures) ∙ c .before .before .before .before .before .if2 .left) (ap (λ (l : List ℕ). sameBytes l (bytes "heap")) (sym (c .before .before .before .before .field .ensures)) ∙ sym (c .before .before .same .ensures) ∙ c .before .if3 .taken))
+    ∙ sym (head-word (start .args .line .now) true (omega arith) (sym (after-fields .fields .ensures) ∙ c .before .before .before .before .before .if2 .left) (ap (λ (l : List ℕ). sameBytes l (bytes "heap")) (sym (c .before .before .before .before .field .ensures)) ∙ sym (c .before .before .same .ensures) ∙ c .before .if3 .taken))
 
 returns-4 : tie.Need-returns-4
-returns-4 c = sym (head-word (c .before .before .before .before .before .before .before .before .args .line .now) false (omega arith) (sym (c .before .before .before .before .before .fields .ensures) ∙ c .before .before .before .before .if2 .left) (ap (λ (l : List ℕ). sameBytes l (bytes "heap")) (sym (c .before .before .before .field .ensures)) ∙ sym (c .before .same .ensures) ∙ c .if3 .left))
+returns-4 c =
+    let start : tie.Start = search needs in
+    sym (head-word (start .args .line .now) false (omega arith) (sym (c .before .before .before .before .before .fields .ensures) ∙ c .before .before .before .before .if2 .left) (ap (λ (l : List ℕ). sameBytes l (bytes "heap")) (sym (c .before .before .before .field .ensures)) ∙ sym (c .before .same .ensures) ∙ c .if3 .left))
 
 pub first-line-spec : {M : Type 1} → statement M
 first-line-spec =

@@ -47,25 +47,31 @@ within-requires c κs = search needs
 
 returns : tie.Need-returns
 returns c =
-    let fs = fieldsOf (c .before .before .before .before .before .before .before .before .before .before .before .before .before .args .line .now) in
-    let n = c .before .before .before .before .before .before .before .before .before .before .number .result in
-    let m = c .before .before .before .before .before .before .before .before .number2 .result in
-    let l = c .before .before .before .before .before .before .number3 .result in
+    let start : tie.Start = search needs in
+    let after-field2 : tie.After-field2 = search needs in
+    let after-number3 : tie.After-number3 = search needs in
+    let fs = fieldsOf (start .args .line .now) in
+    let n = after-field2 .before .number .result in
+    let m = after-number3 .before .before .number2 .result in
+    let l = after-number3 .number3 .result in
     let p = c .before .before .before .before .number4 .result in
     let r = c .before .within .result in
     let w : Says r (Limits (freshHead (sized n m l p))) = rw (c .before .before .fresh .ensures, c .before .before .before .plain .ensures) at (c .before .within .ensures) in
-    sym (heap-says fs n m l p r (c .before .before .before .before .before .before .before .before .before .before .number .ensures ∙ ap (λ (l : List ℕ). capped (numberOf l)) (c .before .before .before .before .before .before .before .before .before .before .before .field .ensures)) (c .before .before .before .before .before .before .before .before .number2 .ensures ∙ ap (λ (l : List ℕ). capped (numberOf l)) (c .before .before .before .before .before .before .before .before .before .field2 .ensures)) (c .before .before .before .before .before .before .number3 .ensures ∙ ap (λ (l : List ℕ). capped (numberOf l)) (c .before .before .before .before .before .before .before .field3 .ensures)) (c .before .before .before .before .number4 .ensures ∙ ap (λ (l : List ℕ). capped (numberOf l)) (c .before .before .before .before .before .field4 .ensures)) w ∙ ap (λ (q : Bool). cond q (Heap n m l p) Bad) (c .if1 .taken))
+    sym (heap-says fs n m l p r (after-field2 .before .number .ensures ∙ ap (λ (l : List ℕ). capped (numberOf l)) (after-field2 .before .before .field .ensures)) (after-number3 .before .before .number2 .ensures ∙ ap (λ (l : List ℕ). capped (numberOf l)) (after-field2 .field2 .ensures)) (after-number3 .number3 .ensures ∙ ap (λ (l : List ℕ). capped (numberOf l)) (after-number3 .before .field3 .ensures)) (c .before .before .before .before .number4 .ensures ∙ ap (λ (l : List ℕ). capped (numberOf l)) (c .before .before .before .before .before .field4 .ensures)) w ∙ ap (λ (q : Bool). cond q (Heap n m l p) Bad) (c .if1 .taken))
 
 returns-2 : tie.Need-returns-2
 returns-2 c =
-    let fs = fieldsOf (c .before .before .before .before .before .before .before .before .before .before .before .before .before .args .line .now) in
-    let n = c .before .before .before .before .before .before .before .before .before .before .number .result in
-    let m = c .before .before .before .before .before .before .before .before .number2 .result in
-    let l = c .before .before .before .before .before .before .number3 .result in
+    let start : tie.Start = search needs in
+    let after-field2 : tie.After-field2 = search needs in
+    let after-number3 : tie.After-number3 = search needs in
+    let fs = fieldsOf (start .args .line .now) in
+    let n = after-field2 .before .number .result in
+    let m = after-number3 .before .before .number2 .result in
+    let l = after-number3 .number3 .result in
     let p = c .before .before .before .before .number4 .result in
     let r = c .before .within .result in
     let w : Says r (Limits (freshHead (sized n m l p))) = rw (c .before .before .fresh .ensures, c .before .before .before .plain .ensures) at (c .before .within .ensures) in
-    sym (heap-says fs n m l p r (c .before .before .before .before .before .before .before .before .before .before .number .ensures ∙ ap (λ (l : List ℕ). capped (numberOf l)) (c .before .before .before .before .before .before .before .before .before .before .before .field .ensures)) (c .before .before .before .before .before .before .before .before .number2 .ensures ∙ ap (λ (l : List ℕ). capped (numberOf l)) (c .before .before .before .before .before .before .before .before .before .field2 .ensures)) (c .before .before .before .before .before .before .number3 .ensures ∙ ap (λ (l : List ℕ). capped (numberOf l)) (c .before .before .before .before .before .before .before .field3 .ensures)) (c .before .before .before .before .number4 .ensures ∙ ap (λ (l : List ℕ). capped (numberOf l)) (c .before .before .before .before .before .field4 .ensures)) w ∙ ap (λ (q : Bool). cond q (Heap n m l p) Bad) (c .if1 .left))
+    sym (heap-says fs n m l p r (after-field2 .before .number .ensures ∙ ap (λ (l : List ℕ). capped (numberOf l)) (after-field2 .before .before .field .ensures)) (after-number3 .before .before .number2 .ensures ∙ ap (λ (l : List ℕ). capped (numberOf l)) (after-field2 .field2 .ensures)) (after-number3 .number3 .ensures ∙ ap (λ (l : List ℕ). capped (numberOf l)) (after-number3 .before .field3 .ensures)) (c .before .before .before .before .number4 .ensures ∙ ap (λ (l : List ℕ). capped (numberOf l)) (c .before .before .before .before .before .field4 .ensures)) w ∙ ap (λ (q : Bool). cond q (Heap n m l p) Bad) (c .if1 .left))
 
 pub heap-line-spec : {M : Type 1} → statement M
 heap-line-spec =

@@ -26,7 +26,8 @@ words-requires c κs = search needs
 
 returns-2 : tie.Need-returns-2
 returns-2 c =
-    let a = c .before .before .before .before .before .before .before .args in
+    let start : tie.Start = search needs in
+    let a = start .args in
     let f = c .before .before .fields .ensures in
     let w = c .before .words .ensures in
     let d = c .if2 .taken in
@@ -34,7 +35,8 @@ returns-2 c =
 
 returns-3 : tie.Need-returns-3
 returns-3 c =
-    let a = c .before .before .before .before .before .before .before .before .args in
+    let start : tie.Start = search needs in
+    let a = start .args in
     let f = c .before .before .before .fields .ensures in
     let w = c .before .before .words .ensures in
     let d = c .before .if2 .left in
@@ -45,11 +47,13 @@ call-line-requires c κs = omega (arith, c .before .before .before .before .oper
 
 returns-4 : tie.Need-returns-4
 returns-4 c =
-    let a = c .before .before .before .before .before .before .before .before .before .args in
+    let start : tie.Start = search needs in
+    let after-field : tie.After-field = search needs in
+    let a = start .args in
     let f = c .before .before .before .before .fields .ensures in
     let w = c .before .before .before .words .ensures in
     let d = c .before .before .if2 .left in
-    c .call-line .ensures ∙ sym (line-call (a .m) (a .line .now) (c .before .before .before .before .before .operation .result) (omega arith) (c .before .before .before .before .before .operation .ensures ∙ ap operationOf (c .before .before .before .before .before .before .field .ensures)) (omega arith) (c .before .if3 .left))
+    c .call-line .ensures ∙ sym (line-call (a .m) (a .line .now) (c .before .before .before .before .before .operation .result) (omega arith) (c .before .before .before .before .before .operation .ensures ∙ ap operationOf (after-field .field .ensures)) (omega arith) (c .before .if3 .left))
 
 pub later-line-spec : {M : Type 1} → statement M
 later-line-spec =

@@ -24,7 +24,9 @@ digits-requires-2 : tie.Need-digits-requires-2
 digits-requires-2 c κs = search needs
 
 returns-4 : tie.Need-returns-4
-returns-4 c = c .digits2 .ensures ∙ ap capped (sym (number-more (c .before .before .before .before .before .before .args .s .now) (c .before .before .before .before .if1 .left) (c .before .before .before .if2 .left) (c .before .if3 .left)))
+returns-4 c =
+    let start : tie.Start = search needs in
+    c .digits2 .ensures ∙ ap capped (sym (number-more (start .args .s .now) (c .before .before .before .before .if1 .left) (c .before .before .before .if2 .left) (c .before .if3 .left)))
 
 pub number-spec : {M : Type 1} → statement M
 number-spec =

@@ -26,7 +26,8 @@ plain-requires c κs = search needs
 
 returns-2 : tie.Need-returns-2
 returns-2 c =
-    let a = c .before .before .before .before .before .before .args in
+    let start : tie.Start = search needs in
+    let a = start .args in
     c .plain .ensures
     ∙ ap (λ (l : List ℕ). asWord (plainOf l)) (c .before .field .ensures)
     ∙ ap asWord (sym (word-plain (a .op) (a .i) (fieldsOf (a .line .now)) (omega (arith, c .before .before .before .before .words .ensures)) (c .before .before .if2 .taken)))
@@ -39,7 +40,8 @@ plain-requires-2 c κs = search needs
 
 returns-3 : tie.Need-returns-3
 returns-3 c =
-    let a = c .before .before .before .before .before .before .before .args in
+    let start : tie.Start = search needs in
+    let a = start .args in
     c .plain2 .ensures
     ∙ ap (λ (l : List ℕ). asWord (plainOf l)) (c .before .field2 .ensures)
     ∙ ap asWord (sym (word-plain-2 (a .op) (a .i) (fieldsOf (a .line .now)) (omega (arith, c .before .before .before .before .before .words .ensures)) (c .before .before .before .if2 .left) (c .before .before .if3 .taken)))
@@ -52,7 +54,8 @@ figure-requires c κs = search needs
 
 returns-4 : tie.Need-returns-4
 returns-4 c =
-    let a = c .before .before .before .before .before .before .before .args in
+    let start : tie.Start = search needs in
+    let a = start .args in
     c .figure .ensures
     ∙ ap (λ (l : List ℕ). asWord (figureOf l)) (c .before .field3 .ensures)
     ∙ ap asWord (sym (word-figure (a .op) (a .i) (fieldsOf (a .line .now)) (omega (arith, c .before .before .before .before .before .words .ensures)) (c .before .before .before .if2 .left) (c .before .before .if3 .left)))

@@ -4,6 +4,9 @@ use mathlib.Core.List.{List}
 use Prim.Native.Nat.{ℕ, _-_, _≤_, zero-le}
 use native.Mathlib.Omega.{arith}
 use Rattle.rules.specs.Rules.{Tables, Transaction}
+use borrow.Author.Needs.{needs}
+use lib.ListN.{length}
+use Rattle.rules.specs.Rows.{tableRows}
 use Rattle.rules.specs.Whole.{Ready, Logged}
 use Rattle.tables.proofs.Steps.{tabled}
 use Rattle.settle.proofs.Replaying.{Replaying, replaying-first, replaying-next, replaying-done, entry-small}
@@ -12,7 +15,7 @@ use Rattle.settle.proofs.replay.Tie as tie
 
 abbrev Inv-loop : tie.InvT-loop
 Inv-loop log len zct₀ mrt₀ counts₀ cap u₀ i₀ zct mrt counts u i =
-    (i ≤ len) × ((n : ℕ) (xs : List Transaction) (t : Tables) → Logged n log len xs → Ready n cap zct₀ mrt₀ counts₀ u₀ t → Replaying n cap zct mrt counts u i xs t)
+    (i ≤ len) × ((n : ℕ) (xs : List Transaction) (t : Tables) → Logged n log len xs → Ready n cap (tableRows zct₀ mrt₀ counts₀) u₀ t → Replaying n cap (tableRows zct mrt counts) u i xs t)
 
 abbrev μ-loop : tie.MeasureT-loop
 μ-loop log len zct₀ mrt₀ counts₀ cap u₀ i₀ zct mrt counts u i = len - i
@@ -20,45 +23,51 @@ abbrev μ-loop : tie.MeasureT-loop
 loop-holds : tie.Need-loop-holds Inv-loop μ-loop
 loop-holds c = (zero-le, λ n xs t L R. replaying-first xs R)
 
+abbrev start : tie.At-loop Inv-loop μ-loop → tie.Start Inv-loop μ-loop
+start l = search needs
+
+-- the tables that the rows are at the loop's test, and those at the start
+replaying : (l : tie.At-loop Inv-loop μ-loop) → let S = start l .pre in Replaying (length (start l .args .zct .now)) (start l .args .cap) (tableRows (l .loop .zct) (l .loop .mrt) (l .loop .counts)) (l .loop .u) (l .loop .i) (S .list) (S .tables)
+replaying l = let S = start l .pre in l .loop .inv .1 _ _ _ (S .logged) (S .ready)
+
 entry-at-requires : tie.Need-entry-at-requires Inv-loop μ-loop
-entry-at-requires c κs = let L = c .before .before .before .before .before .before .pre .logged in
+entry-at-requires c κs = let s : tie.Start Inv-loop μ-loop = search needs in
+    let L = s .pre .logged in
     omega arith
 
 replay-one-requires : tie.Need-replay-one-requires Inv-loop μ-loop
-replay-one-requires c κs = let e = c .before .before .before in
+replay-one-requires c κs = let e : tie.After-entry-at Inv-loop μ-loop = search needs in
     let l = e .before .before in
-    let S = l .before .before .before .before .before .pre in
-    let P = l .loop .inv .1 _ _ _ (S .logged) (S .ready) in
-    (tabled (P .ready) (S .bounds), entry-small (P .ready) (S .logged) (e .before .loop-test .taken) (e .entry-at .ensures .address-is))
+    let S = start l .pre in
+    let P = replaying l in
+    (tabled (P .ready) (S .most) (S .big), entry-small (P .ready) (S .logged) (e .before .loop-test .taken) (e .entry-at .ensures .address-is))
 
 add-i : tie.Need-add-i Inv-loop μ-loop
-add-i c = let t = c .before .before .before .before .before .before .before .before .before .before .before .loop-test .taken in
+add-i c = let t : tie.In-loop Inv-loop μ-loop = search needs in
+    let k = t .loop-test .taken in
     omega arith
 
 loop-less : tie.Need-loop-less Inv-loop μ-loop
-loop-less c = let t = c .before .before .before .before .before .before .before .before .before .before .before .loop-test .taken in
+loop-less c = let t : tie.In-loop Inv-loop μ-loop = search needs in
+    let k = t .loop-test .taken in
     omega arith
 
 loop-again : tie.Need-loop-again Inv-loop μ-loop
-loop-again c = let r = c .before .before .before .before .before .before in
-    let e = r .before .before .before .before in
-    let l = e .before .before in
+loop-again c = let r : tie.After-replay-one Inv-loop μ-loop = search needs in
+    let e : tie.After-entry-at Inv-loop μ-loop = search needs in
     let t = e .before .loop-test .taken in (
       omega arith,
-      λ n xs s L R. replaying-next _ (l .loop .inv .1 n xs s L R) (e .entry-at .ensures .next n _ xs L t) (r .replay-one .ensures),
+      λ n xs s L R. replaying-next _ (e .before .before .loop .inv .1 n xs s L R) (e .entry-at .ensures .next n _ xs L t) (r .replay-one .ensures),
     )
 
 same-length : tie.Need-same-length Inv-loop μ-loop
-same-length c = let S = c .before .before .before .before .before .before .pre in
-    c .before .loop .inv .1 _ _ _ (S .logged) (S .ready) .ready .are .zct-is .long ∙ sym (S .ready .are .zct-is .long)
+same-length c = replaying (c .before) .ready .are .zct-is .long ∙ sym (start (c .before) .pre .ready .are .zct-is .long)
 
 same-length-2 : tie.Need-same-length-2 Inv-loop μ-loop
-same-length-2 c = let S = c .before .before .before .before .before .before .pre in
-    c .before .loop .inv .1 _ _ _ (S .logged) (S .ready) .ready .are .mrt-is .long ∙ sym (S .ready .are .mrt-is .long)
+same-length-2 c = replaying (c .before) .ready .are .mrt-is .long ∙ sym (start (c .before) .pre .ready .are .mrt-is .long)
 
 same-length-3 : tie.Need-same-length-3 Inv-loop μ-loop
-same-length-3 c = let S = c .before .before .before .before .before .before .pre in
-    c .before .loop .inv .1 _ _ _ (S .logged) (S .ready) .ready .are .counts-is .long ∙ sym (S .ready .are .counts-is .long)
+same-length-3 c = replaying (c .before) .ready .are .counts-is .long ∙ sym (start (c .before) .pre .ready .are .counts-is .long)
 
 returns : tie.Need-returns Inv-loop μ-loop
 returns c = λ n xs t L R. replaying-done (c .before .loop .inv .1 n xs t L R) L (c .loop-test .left)

@@ -9,33 +9,33 @@ cast-w : tie.Need-cast-w
 cast-w c = search needs
 
 allocate-requires : tie.Need-allocate-requires
-allocate-requires c κs = let s = c .before .before .before .before .before in
+allocate-requires c κs = let s : tie.Start = search needs in
     (zct-listed (s .pre .0 .ready), s .pre .1)
 
 same-length : tie.Need-same-length
-same-length c = c .before .zct .given
+same-length c = search needs
 
 returns : tie.Need-returns
 returns c = let a = c .before .before in
     let t = a .before .before in
     λ n u R.
-    rw (is-allocate _ _ (t .if1 .taken)) (a .allocate .ensures n _ _ _ u R)
+    rw (is-allocate _ _ (t .if1 .taken)) (a .allocate .ensures _ _ _ n u R)
 
 create-requires : tie.Need-create-requires
 create-requires c κs = search needs
 
 same-length-2 : tie.Need-same-length-2
-same-length-2 c = c .before .before .before .before .before .zct2 .given
+same-length-2 c = search needs
 
 same-length-3 : tie.Need-same-length-3
-same-length-3 c = c .before .before .before .mrt .given
+same-length-3 c = search needs
 
 same-length-4 : tie.Need-same-length-4
-same-length-4 c = c .before .counts .given
+same-length-4 c = search needs
 
 returns-2 : tie.Need-returns-2
-returns-2 c = let a = c .before .before .before .before .before .before in
-    let t = a .before .before .before .before in
+returns-2 c = let a : tie.After-create = search needs in
+    let t : tie.Then2 = search needs in
     λ n u R.
     rw (is-create _ _ (t .before .if1 .left) (t .if2 .taken)) (a .create .ensures n u R)
 
@@ -43,17 +43,17 @@ destroy-requires : tie.Need-destroy-requires
 destroy-requires c κs = search needs
 
 same-length-5 : tie.Need-same-length-5
-same-length-5 c = c .before .before .before .before .before .zct3 .given
+same-length-5 c = search needs
 
 same-length-6 : tie.Need-same-length-6
-same-length-6 c = c .before .before .before .mrt2 .given
+same-length-6 c = search needs
 
 same-length-7 : tie.Need-same-length-7
-same-length-7 c = c .before .counts2 .given
+same-length-7 c = search needs
 
 returns-3 : tie.Need-returns-3
-returns-3 c = let a = c .before .before .before .before .before .before in
-    let t = a .before .before .before .before in
+returns-3 c = let a : tie.After-destroy = search needs in
+    let t : tie.Else2 = search needs in
     λ n u R.
     rw (is-destroy _ _ (t .before .if1 .left) (t .if2 .left)) (a .destroy .ensures n u R)
 

@@ -43,7 +43,7 @@ returns c = let r = c .before .before in
 count-up-requires : tie.Need-count-up-requires
 count-up-requires c κs = let s = start (c .before .before .before) in
     let T = s .pre .0 in
-    (mrt-counted (T .ready) (T .bounds .big), mrt-small T (s .args .a) (s .pre .1))
+    (mrt-counted (T .ready) (T .big), mrt-small T (s .args .a) (s .pre .1))
 
 same-length-2 : tie.Need-same-length-2
 same-length-2 c = search needs

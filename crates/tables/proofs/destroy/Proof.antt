@@ -19,18 +19,18 @@ absent c = sym (c .before .is-at .ensures) ∙ c .if1 .left
 
 find-requires : tie.Need-find-requires
 find-requires c κs = let s = c .before .before .before .before in
-    let C = mrt-counted (s .pre .0 .ready) (s .pre .0 .bounds .big) in
+    let C = mrt-counted (s .pre .0 .ready) (s .pre .0 .big) in
     (C .listed .padded .fits, C .listed .up)
 
 is-at-requires : tie.Need-is-at-requires
 is-at-requires c κs = let s = c .before .before .before .before .before .before in
-    let C = mrt-counted (s .pre .0 .ready) (s .pre .0 .bounds .big) in
+    let C = mrt-counted (s .pre .0 .ready) (s .pre .0 .big) in
     (C .listed .padded .fits, (C .listed .up, c .before .find .ensures))
 
 count-down-requires : tie.Need-count-down-requires
 count-down-requires c κs = let t = c .before .before in
     let s = start (t .before) in
-    (mrt-counted (s .pre .0 .ready) (s .pre .0 .bounds .big), there t)
+    (mrt-counted (s .pre .0 .ready) (s .pre .0 .big), there t)
 
 same-length : tie.Need-same-length
 same-length c = search needs

@@ -2,7 +2,8 @@ use Rattle.rules.specs.Call.{isNought, number, callOf, isBelow}
 use mir.Facts.{toZ-ofZ}
 use Rattle.words.proofs.Words.{same, same-three, figure-right, ap-three, op-is, no-call, given-are}
 use mathlib.Core.Path.{ap, refl, ap₂}
-use Rattle.rules.specs.declared.Call.the-variants.{New, Copy, Clear, Link, Put, Blank, Follow, Read, Same}
+use Rattle.rules.specs.declared.Call.the-variants.{New, Do}
+use Rattle.rules.specs.declared.Deed.the-variants.{Copy, Clear, Link, Put, Blank, Follow, Read, Same}
 use borrow.Author.Needs.{needs}
 use Rattle.words.proofs.call_of.Statement.{statement}
 use Rattle.words.proofs.call_of.Tie as tie
@@ -133,56 +134,58 @@ unfolding callOf
 returns-2 c =
     let s = c .before .before .before .before .before in
     rw (op-is 2 (s .fits .op) (c .before .before .before .before .match .keys2))
-    (given-are (c .given2 .ensures) (same-three (isBelow _) (isBelow _) (isNought) (s .fits .a) (s .fits .b) (s .fits .c) (c .before .before .before .two-variables .ensures)) (ap₂ Copy (same number (s .fits .a) (c .before .before .address2 .ensures)) (same number (s .fits .b) (c .before .address3 .ensures))))
+    (given-are (c .given2 .ensures) (same-three (isBelow _) (isBelow _) (isNought) (s .fits .a) (s .fits .b) (s .fits .c) (c .before .before .before .two-variables .ensures)) (ap₂ (λ a b. Do (Copy a b)) (same number (s .fits .a) (c .before .before .address2 .ensures)) (same number (s .fits .b) (c .before .address3 .ensures))))
 
 returns-3 : tie.Need-returns-3
 unfolding callOf
 returns-3 c =
     let s = c .before .before .before .before in
     rw (op-is 3 (s .fits .op) (c .before .before .before .match .keys3))
-    (given-are (c .given3 .ensures) (same-three (isBelow _) (isNought) (isNought) (s .fits .a) (s .fits .b) (s .fits .c) (c .before .before .one-variable2 .ensures)) (ap Clear (same number (s .fits .a) (c .before .address4 .ensures))))
+    (given-are (c .given3 .ensures) (same-three (isBelow _) (isNought) (isNought) (s .fits .a) (s .fits .b) (s .fits .c) (c .before .before .one-variable2 .ensures)) (ap (λ a. Do (Clear a)) (same number (s .fits .a) (c .before .address4 .ensures))))
 
 returns-4 : tie.Need-returns-4
 unfolding callOf
 returns-4 c =
-    let s = c .before .before .before .before .before .before in
+    let start : tie.Start = search needs in
+    let s = start in
     rw (op-is 4 (s .fits .op) (c .before .before .before .before .before .match .keys4))
-    (given-are (c .given4 .ensures) (same-three (isBelow _) (isBelow 2) (isBelow _) (s .fits .a) (s .fits .b) (s .fits .c) (c .before .before .before .before .field-and-variable .ensures)) (ap-three Link (same number (s .fits .a) (c .before .before .before .address5 .ensures)) (same number (s .fits .b) (c .before .before .address6 .ensures)) (same number (s .fits .c) (c .before .address7 .ensures))))
+    (given-are (c .given4 .ensures) (same-three (isBelow _) (isBelow 2) (isBelow _) (s .fits .a) (s .fits .b) (s .fits .c) (c .before .before .before .before .field-and-variable .ensures)) (ap-three (λ a b c. Do (Link a b c)) (same number (s .fits .a) (c .before .before .before .address5 .ensures)) (same number (s .fits .b) (c .before .before .address6 .ensures)) (same number (s .fits .c) (c .before .address7 .ensures))))
 
 returns-5 : tie.Need-returns-5
 unfolding callOf
 returns-5 c =
     let s = c .before .before .before .before .before in
     rw (op-is 5 (s .fits .op) (c .before .before .before .before .match .keys5))
-    (given-are (c .given5 .ensures) (figure-right _ (s .fits .a) (s .fits .b) (s .fits .c) (c .before .before .before .field-and-figure .ensures)) (ap-three Put (same number (s .fits .a) (c .before .before .address8 .ensures)) (same number (s .fits .b) (c .before .address9 .ensures)) (toZ-ofZ (s .fits .c))))
+    (given-are (c .given5 .ensures) (figure-right _ (s .fits .a) (s .fits .b) (s .fits .c) (c .before .before .before .field-and-figure .ensures)) (ap-three (λ a b c. Do (Put a b c)) (same number (s .fits .a) (c .before .before .address8 .ensures)) (same number (s .fits .b) (c .before .address9 .ensures)) (toZ-ofZ (s .fits .c))))
 
 returns-6 : tie.Need-returns-6
 unfolding callOf
 returns-6 c =
     let s = c .before .before .before .before .before in
     rw (op-is 6 (s .fits .op) (c .before .before .before .before .match .keys6))
-    (given-are (c .given6 .ensures) (same-three (isBelow _) (isBelow 2) (isNought) (s .fits .a) (s .fits .b) (s .fits .c) (c .before .before .before .one-field .ensures)) (ap₂ Blank (same number (s .fits .a) (c .before .before .address10 .ensures)) (same number (s .fits .b) (c .before .address11 .ensures))))
+    (given-are (c .given6 .ensures) (same-three (isBelow _) (isBelow 2) (isNought) (s .fits .a) (s .fits .b) (s .fits .c) (c .before .before .before .one-field .ensures)) (ap₂ (λ a b. Do (Blank a b)) (same number (s .fits .a) (c .before .before .address10 .ensures)) (same number (s .fits .b) (c .before .address11 .ensures))))
 
 returns-7 : tie.Need-returns-7
 unfolding callOf
 returns-7 c =
-    let s = c .before .before .before .before .before .before in
+    let start : tie.Start = search needs in
+    let s = start in
     rw (op-is 7 (s .fits .op) (c .before .before .before .before .before .match .keys7))
-    (given-are (c .given7 .ensures) (same-three (isBelow _) (isBelow 2) (isBelow _) (s .fits .a) (s .fits .b) (s .fits .c) (c .before .before .before .before .field-and-variable2 .ensures)) (ap-three Follow (same number (s .fits .a) (c .before .before .before .address12 .ensures)) (same number (s .fits .b) (c .before .before .address13 .ensures)) (same number (s .fits .c) (c .before .address14 .ensures))))
+    (given-are (c .given7 .ensures) (same-three (isBelow _) (isBelow 2) (isBelow _) (s .fits .a) (s .fits .b) (s .fits .c) (c .before .before .before .before .field-and-variable2 .ensures)) (ap-three (λ a b c. Do (Follow a b c)) (same number (s .fits .a) (c .before .before .before .address12 .ensures)) (same number (s .fits .b) (c .before .before .address13 .ensures)) (same number (s .fits .c) (c .before .address14 .ensures))))
 
 returns-8 : tie.Need-returns-8
 unfolding callOf
 returns-8 c =
     let s = c .before .before .before .before .before in
     rw (op-is 8 (s .fits .op) (c .before .before .before .before .match .keys8))
-    (given-are (c .given8 .ensures) (same-three (isBelow _) (isBelow 2) (isNought) (s .fits .a) (s .fits .b) (s .fits .c) (c .before .before .before .one-field2 .ensures)) (ap₂ Read (same number (s .fits .a) (c .before .before .address15 .ensures)) (same number (s .fits .b) (c .before .address16 .ensures))))
+    (given-are (c .given8 .ensures) (same-three (isBelow _) (isBelow 2) (isNought) (s .fits .a) (s .fits .b) (s .fits .c) (c .before .before .before .one-field2 .ensures)) (ap₂ (λ a b. Do (Read a b)) (same number (s .fits .a) (c .before .before .address15 .ensures)) (same number (s .fits .b) (c .before .address16 .ensures))))
 
 returns-9 : tie.Need-returns-9
 unfolding callOf
 returns-9 c =
     let s = c .before .before .before .before .before in
     rw (op-is 9 (s .fits .op) (c .before .before .before .before .match .keys9))
-    (given-are (c .given9 .ensures) (same-three (isBelow _) (isBelow _) (isNought) (s .fits .a) (s .fits .b) (s .fits .c) (c .before .before .before .two-variables2 .ensures)) (ap₂ Same (same number (s .fits .a) (c .before .before .address17 .ensures)) (same number (s .fits .b) (c .before .address18 .ensures))))
+    (given-are (c .given9 .ensures) (same-three (isBelow _) (isBelow _) (isNought) (s .fits .a) (s .fits .b) (s .fits .c) (c .before .before .before .two-variables2 .ensures)) (ap₂ (λ a b. Do (Same a b)) (same number (s .fits .a) (c .before .before .address17 .ensures)) (same number (s .fits .b) (c .before .address18 .ensures))))
 
 returns-10 : tie.Need-returns-10
 unfolding callOf

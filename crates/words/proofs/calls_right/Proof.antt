@@ -45,8 +45,9 @@ loop-again c =
 
 returns-3 : tie.Need-returns-3 Inv-loop μ-loop
 returns-3 c =
+    let else1 : tie.Else1 Inv-loop μ-loop = search needs in
     says-no _ _ _ refl
-    (stops-bad _ _ _ (c .before .before .before .before .before .before .if1 .left) (omega arith) (sym (ap isSome (c .before .before .call-at .ensures)) ∙ sym (c .before .is-call .ensures) ∙ c .if3 .left) (c .before .before .before .before .before .loop .inv))
+    (stops-bad _ _ _ (else1 .if1 .left) (omega arith) (sym (ap isSome (c .before .before .call-at .ensures)) ∙ sym (c .before .is-call .ensures) ∙ c .if3 .left) (c .before .before .before .before .before .loop .inv))
 
 returns-4 : tie.Need-returns-4 Inv-loop μ-loop
 returns-4 c = says-yes _ _ _ refl (passed-all _ _ _ (c .before .before .if1 .left) (c .loop-test .left) (c .before .loop .inv))

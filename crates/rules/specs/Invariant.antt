@@ -115,6 +115,7 @@ abbrev pub Small : ℕ → List Transaction → Type 0
 Small n [] = Unit {0}
 Small n (x ∷ xs) = (named x < n) × Small n xs
 
+-- a heap in its batch
 pub record Inv (s : Sizes) (h : Heap) : Type 0 where
   pub good : Good (s .n) (s .cap) (h .shape .fields) (h .shape .variables) (replay (s .cap) (h .log) (h .tables))
   pub frees : Frees (s .n) (h .shape .fields) (h .first)
