@@ -14,7 +14,7 @@ use Rattle.rules.specs.declared.Field.the-variants.{Nothing}
 use Rattle.rules.specs.declared.Call.{Call}
 use Rattle.rules.specs.Field.{addressOf, variableOf, fieldOf}
 use Rattle.rules.specs.Settle.{Shape, place, field}
-use Rattle.rules.specs.Call.{var, at, isHeld, want, orElse, makes}
+use Rattle.rules.specs.Call.{var, at, isHeld, makes}
 use Rattle.cells.specs.Leaves.{heldAs}
 use Rattle.cells.proofs.Storing.{read}
 use Rattle.before.specs.Seen.{Held, Shown, Reach, Reaches}
@@ -49,7 +49,6 @@ module _ {n : ℕ} {vs : List ℤ} {hs : List (Option ℕ)} (H : Held n vs hs) (
   held-none {r} e h = sym (held-is e) ∙ rw (le-ltb r n h)
 
   pub held-test : {r : ℕ} → r ≡ addressOf n (getD vs v (pos 0)) → ltb r n ≡ isHeld (getD hs v none)
-  unfolding isHeld
   held-test {r} e = go (ltb r n) refl (held-is e)
     where
       go : (q : Bool) → ltb r n ≡ q → cond q (some r) none ≡ getD hs v none → q ≡ isHeld (getD hs v none)
@@ -66,24 +65,7 @@ module _ {n : ℕ} {ks : List ℕ} {xs vs : List ℤ} {s : Shape} (S : Shown n k
   unfolding at var
   at-none e h = rw (held-none (S .held) v l e h, at, var)
 
--- 11 for either
-pub both-11 : (p q : Bool) → orElse (want p 11) (want q 11) ≡ want (p && q) 11
-unfolding orElse want
-both-11 true q = refl
-both-11 false q = refl
-
-pub else-zero : (j k : ℕ) → j ≡ 0 → k ≡ orElse j k
-unfolding orElse
-else-zero zero k e = refl
-else-zero (suc j) k e = absurd (omega arith)
-
-pub else-more : (j k : ℕ) → (j ≡ 0 → ⊥) → j ≡ orElse j k
-unfolding orElse
-else-more zero k d = absurd (d refl)
-else-more (suc j) k d = refl
-
 pub made : (o : Option ℕ) (r : ℕ) (q : Bool) → q ≡ isHeld o → r ≡ cond q 1 0 → r ≡ length (makes o)
-unfolding isHeld makes
 made none r q e h = h ∙ ap (λ (x : Bool). cond x 1 0) e
 made (some a) r q e h = h ∙ ap (λ (x : Bool). cond x 1 0) e
 

@@ -1,16 +1,19 @@
 // Before a call, on rows: what refuses it, and how many entries it will log.
 ghost use mathlib.Core.Path.{_≡_};
-ghost use mathlib.Core.Bool.{_&&_};
+ghost use mathlib.Core.Bool.{cond, _&&_};
 ghost use mathlib.Core.List.{List, _++_};
 ghost use mathlib.Core.Option.{Option, none};
 ghost use Prim.Native.Nat.{ℕ, _<_, _≤_};
 ghost use lib.ListN.{length, getD};
+ghost use Rattle.rules.specs.declared.Call.the-variants.{Do};
 ghost use Rattle.rules.specs.Settle.{Shape, drops};
-ghost use Rattle.rules.specs.Call.{var, at, isHeld, isCell, isFigure, want, orElse, check, makes};
-ghost use Rattle.before.specs.Seen.{Held, Shown, Reach, Reaches, needs};
+ghost use Rattle.rules.specs.Call.{var, at, isHeld, isCell, isFigure, want, refuses, check, makes, logs};
+ghost use Rattle.rules.specs.Step.{needs};
+ghost use Rattle.before.specs.Seen.{Held, Shown, Reach, Reaches};
 use cells::field_at;
 use cells::held;
 use rules::Call;
+use rules::Deed;
 use rules::Field;
 
 // ---- what a call finds
@@ -73,19 +76,12 @@ fn want(b: bool, k: usize) -> usize
     if b { 0 } else { k }
 }
 
-// The first that is not 0.
-fn or_else(j: usize, k: usize) -> usize
-    ensures { λ r. ⌜ r ≡ orElse j k ⌝ }
-{
-    if j == 0 { k } else { j }
-}
-
-// 11 where v holds nothing.
-fn check_one(variables: &[i32], v: usize, n: usize) -> usize
+// 11 where v holds nothing, else the other number.
+fn eleven_first(variables: &[i32], v: usize, n: usize, other: usize) -> usize
     requires { ⌜ v < length (now variables) ⌝ }
-    ensures { λ r. ⌜ ((hs : List (Option ℕ)) → Held n (now (variables .entry)) hs → r ≡ want (isHeld (getD hs v none)) 11) ⌝ }
+    ensures { λ r. ⌜ ((hs : List (Option ℕ)) → Held n (now (variables .entry)) hs → r ≡ cond (isHeld (getD hs v none)) other 11) ⌝ }
 {
-    want(is_held(variables, v, n), 11)
+    if is_held(variables, v, n) { other } else { 11 }
 }
 
 // 11 where v or w holds nothing.
@@ -93,7 +89,10 @@ fn check_two(variables: &[i32], v: usize, w: usize, n: usize) -> usize
     requires { ⌜ (v < length (now variables)) × (w < length (now variables)) ⌝ }
     ensures { λ r. ⌜ ((hs : List (Option ℕ)) → Held n (now (variables .entry)) hs → r ≡ want (isHeld (getD hs v none) && isHeld (getD hs w none)) 11) ⌝ }
 {
-    or_else(check_one(variables, v, n), check_one(variables, w, n))
+    if is_held(variables, v, n) {
+        return eleven_first(variables, w, n, 0);
+    }
+    11
 }
 
 // 11 where v holds nothing, 12 where its field f is no cell.
@@ -106,10 +105,10 @@ fn check_follow(
     f: usize,
 ) -> usize
     requires { ⌜ Reach n (now kinds) (now values) (now variables) v f ⌝ }
-    ensures { λ r. ⌜ ((s : Shape) → Shown n (now (kinds .entry)) (now (values .entry)) (now (variables .entry)) s → r ≡ orElse (want (isHeld (var s v)) 11) (want (isCell (at s v f)) 12)) ⌝ }
+    ensures { λ r. ⌜ ((s : Shape) → Shown n (now (kinds .entry)) (now (values .entry)) (now (variables .entry)) s → r ≡ cond (isHeld (var s v)) (want (isCell (at s v f)) 12) 11) ⌝ }
 {
     let old = field_of(kinds, values, variables, n, v, f);
-    or_else(check_one(variables, v, n), want(is_cell(old), 12))
+    eleven_first(variables, v, n, want(is_cell(old), 12))
 }
 
 // 11 where v holds nothing, 13 where its field f is no figure.
@@ -122,27 +121,37 @@ fn check_read(
     f: usize,
 ) -> usize
     requires { ⌜ Reach n (now kinds) (now values) (now variables) v f ⌝ }
-    ensures { λ r. ⌜ ((s : Shape) → Shown n (now (kinds .entry)) (now (values .entry)) (now (variables .entry)) s → r ≡ orElse (want (isHeld (var s v)) 11) (want (isFigure (at s v f)) 13)) ⌝ }
+    ensures { λ r. ⌜ ((s : Shape) → Shown n (now (kinds .entry)) (now (values .entry)) (now (variables .entry)) s → r ≡ cond (isHeld (var s v)) (want (isFigure (at s v f)) 13) 11) ⌝ }
 {
     let old = field_of(kinds, values, variables, n, v, f);
-    or_else(check_one(variables, v, n), want(is_figure(old), 13))
+    eleven_first(variables, v, n, want(is_figure(old), 13))
 }
 
-// 0, or the number that says no to a call: 11, 12 or 13.
+// 0, or the number that says no to a deed: 11, 12 or 13.
+fn refuses(deed: Deed, kinds: &[u8], values: &[i32], variables: &[i32], n: usize) -> usize
+    requires { ⌜ Reaches n (now kinds) (now values) (now variables) (Do deed) ⌝ }
+    ensures { λ r. ⌜ ((s : Shape) → Shown n (now (kinds .entry)) (now (values .entry)) (now (variables .entry)) s → r ≡ refuses deed s) ⌝ }
+{
+    match deed {
+        Deed::Copy(_, _) => 0,
+        Deed::Clear(_) => 0,
+        Deed::Link(v, _, w) => check_two(variables, v, w, n),
+        Deed::Put(v, _, _) => eleven_first(variables, v, n, 0),
+        Deed::Blank(v, _) => eleven_first(variables, v, n, 0),
+        Deed::Follow(v, f, _) => check_follow(kinds, values, variables, n, v, f),
+        Deed::Read(v, f) => check_read(kinds, values, variables, n, v, f),
+        Deed::Same(v, w) => check_two(variables, v, w, n),
+    }
+}
+
+// 0, or the number that says no to a call: new and settle need no variable's cell.
 pub fn check(call: Call, kinds: &[u8], values: &[i32], variables: &[i32], n: usize) -> usize
     requires { ⌜ Reaches n (now kinds) (now values) (now variables) call ⌝ }
     ensures { λ r. ⌜ ((s : Shape) → Shown n (now (kinds .entry)) (now (values .entry)) (now (variables .entry)) s → r ≡ check call s) ⌝ }
 {
     match call {
         Call::New(_) => 0,
-        Call::Copy(_, _) => 0,
-        Call::Clear(_) => 0,
-        Call::Link(v, _, w) => check_two(variables, v, w, n),
-        Call::Put(v, _, _) => check_one(variables, v, n),
-        Call::Blank(v, _) => check_one(variables, v, n),
-        Call::Follow(v, f, _) => check_follow(kinds, values, variables, n, v, f),
-        Call::Read(v, f) => check_read(kinds, values, variables, n, v, f),
-        Call::Same(v, w) => check_two(variables, v, w, n),
+        Call::Do(deed) => refuses(deed, kinds, values, variables, n),
         Call::Settle => 0,
     }
 }
@@ -202,21 +211,31 @@ fn need_store(
     drop_count(field_of(kinds, values, variables, n, v, f))
 }
 
-// How many entries a call will log.
+// How many entries a deed logs.
+fn entries(deed: Deed, kinds: &[u8], values: &[i32], variables: &[i32], n: usize) -> usize
+    requires { ⌜ Reaches n (now kinds) (now values) (now variables) (Do deed) ⌝ }
+    ensures { λ r. ⌜ ((s : Shape) → Shown n (now (kinds .entry)) (now (values .entry)) (now (variables .entry)) s → r ≡ length (logs deed s)) ⌝ }
+{
+    match deed {
+        Deed::Copy(_, _) => 0,
+        Deed::Clear(_) => 0,
+        Deed::Link(v, f, w) => need_link(kinds, values, variables, n, v, f, w),
+        Deed::Put(v, f, _) => need_store(kinds, values, variables, n, v, f),
+        Deed::Blank(v, f) => need_store(kinds, values, variables, n, v, f),
+        Deed::Follow(_, _, _) => 0,
+        Deed::Read(_, _) => 0,
+        Deed::Same(_, _) => 0,
+    }
+}
+
+// How many entries a call needs.
 pub fn need(call: Call, kinds: &[u8], values: &[i32], variables: &[i32], n: usize) -> usize
     requires { ⌜ Reaches n (now kinds) (now values) (now variables) call ⌝ }
     ensures { λ r. ⌜ ((s : Shape) → Shown n (now (kinds .entry)) (now (values .entry)) (now (variables .entry)) s → r ≡ needs call s) ⌝ }
 {
     match call {
         Call::New(_) => 1,
-        Call::Copy(_, _) => 0,
-        Call::Clear(_) => 0,
-        Call::Link(v, f, w) => need_link(kinds, values, variables, n, v, f, w),
-        Call::Put(v, f, _) => need_store(kinds, values, variables, n, v, f),
-        Call::Blank(v, f) => need_store(kinds, values, variables, n, v, f),
-        Call::Follow(_, _, _) => 0,
-        Call::Read(_, _) => 0,
-        Call::Same(_, _) => 0,
+        Call::Do(deed) => entries(deed, kinds, values, variables, n),
         Call::Settle => 0,
     }
 }

@@ -20,7 +20,7 @@ use Rattle.rules.specs.declared.Call.the-variants.{New, Do, Settle}
 use Rattle.rules.specs.declared.Sizes.{Sizes}
 use Rattle.rules.specs.Rules.{Tables, Transaction, replay}
 use Rattle.rules.specs.Settle.{Shape, drops, holds, field, store}
-use Rattle.rules.specs.Call.{var, at, isHeld, isCell, want, orElse, check, makes, logs, write, hold, toCell, target, act, isBelow, isNought, isSigned32, given, number, callOf, andThen, callsOf, callsIn, InRange, Fits, AllFit, refuses}
+use Rattle.rules.specs.Call.{var, at, isHeld, isCell, want, check, makes, logs, write, hold, toCell, target, act, isBelow, isNought, isSigned32, given, number, callOf, andThen, callsOf, callsIn, InRange, Fits, AllFit, refuses}
 use Rattle.rules.specs.Head.{Limits}
 use Rattle.rules.specs.Invariant.{hit, refs, used, live, Counted, Good, Fitting, Small}
 use Rattle.rules.proofs.Exact.{gains, drop-counted, gain-counted}
@@ -66,9 +66,9 @@ pub two-11 : (p q : Bool) → want (p && q) 11 ≡ 0 → (want p 11 ≡ 0) × (w
 two-11 true q e = (refl, e)
 two-11 false q e = absurd (omega arith)
 
-pub then-11 : (j k : ℕ) → orElse j k ≡ 0 → j ≡ 0
-then-11 zero k e = refl
-then-11 (suc j) k e = e
+pub then-11 : (q : Bool) (k : ℕ) → cond q k 11 ≡ 0 → want q 11 ≡ 0
+then-11 true k e = refl
+then-11 false k e = e
 
 pub toCell-used : (o : Option ℕ) → used (toCell o) ≡ true
 toCell-used none = refl
@@ -196,7 +196,7 @@ module _ (s : Sizes) (ok : Limits s) (sh : Shape) (t : Tables) (g : Good (s .n) 
       link-good v f (var sh w) (h .1) (k .0) (k .1) (λ a d. var-live w a d)
   deed-good (Put v f x) h e = plain-good v f (Figure x) (h .1) e refl refl (λ b. refl)
   deed-good (Blank v f) h e = plain-good v f Nothing (h .1) e refl refl (λ b. refl)
-  deed-good (Follow v f w) h e = hold-good w (target (at sh v f)) (target-live v f (h .1) (then-11 (want (isHeld (var sh v)) 11) (want (isCell (at sh v f)) 12) e))
+  deed-good (Follow v f w) h e = hold-good w (target (at sh v f)) (target-live v f (h .1) (then-11 (isHeld (var sh v)) (want (isCell (at sh v f)) 12) e))
   deed-good (Read v f) h e = g
   deed-good (Same v w) f e = g
 

@@ -17,6 +17,7 @@ use Rattle.rules.specs.declared.Sizes.{Sizes}
 use Rattle.rules.specs.Settle.{Shape, Heap, place, field, store, drops, pick, freeCell, onPick, reclaim, replayed, settledBy, settled}
 use Rattle.rules.specs.Call.{Answer, unless, var, at, isCell, isFigure, refuses, check, logs, write, hold, toCell, target, act, value}
 use Rattle.rules.specs.Step.{Stepped, refused, full, noneFree, wants, settledIf, settledFor, after, takeCell, doNew, doDeed, acted, run, step, calls, unfreed, batch}
+use Rattle.rules.proofs.Lists.{map-set}
 
 abbrev pub eraseF : Field → Field
 eraseF Nothing = Nothing
@@ -45,14 +46,9 @@ eraseS s = record { fields = map eraseF (s .fields); variables = s .variables }
 abbrev pub erase : Heap → Heap
 erase h = record { shape = eraseS (h .shape); first = h .first; tables = h .tables; log = h .log; freed = h .freed }
 
-map-set : (l : List Field) (i : ℕ) (x : Field) → set (map eraseF l) i (eraseF x) ≡ map eraseF (set l i x)
-map-set [] i x = refl
-map-set (y ∷ l) zero x = refl
-map-set (y ∷ l) (suc i) x = ap (λ t. eraseF y ∷ t) (map-set l i x)
-
 store-erase : (l : List Field) (a f : ℕ) (x : Field) → store (map eraseF l) a f (eraseF x) ≡ map eraseF (store l a f x)
 unfolding store
-store-erase l a f x = map-set l (place a f) x
+store-erase l a f x = sym (map-set eraseF (place a f) x l)
 
 field-erase : (l : List Field) (a f : ℕ) → field (map eraseF l) a f ≡ eraseF (field l a f)
 unfolding field

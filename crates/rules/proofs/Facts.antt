@@ -20,7 +20,7 @@ use Rattle.rules.specs.declared.Sizes.{Sizes}
 use Rattle.rules.specs.Table.{has}
 use Rattle.rules.specs.Rules.{replay}
 use Rattle.rules.specs.Settle.{Shape, Heap, holds, pick, place, field, reclaim, replayed, settledBy, settled}
-use Rattle.rules.specs.Call.{Answer, InRange, Fits, AllFit, unless, var, at, isHeld, isCell, isFigure, want, orElse, refuses, check, hold}
+use Rattle.rules.specs.Call.{Answer, InRange, Fits, AllFit, unless, var, at, isHeld, isCell, isFigure, want, refuses, check, hold}
 use Rattle.rules.specs.Demands.{isNew}
 use Rattle.rules.specs.Step.{Stepped, refused, settledIf, full, noneFree, takeCell, doNew, run, step, calls, batch, wants, counted, settledFor, doDeed, acted, unfreed}
 use Rattle.rules.specs.Head.{Limits}
@@ -63,7 +63,7 @@ want-below : (b : Bool) (k : ℕ) → k < 14 → want b k < 14
 want-below true k h = omega arith
 want-below false k h = h
 
-then-below : (p q : Bool) (k : ℕ) → k < 14 → orElse (want p 11) (want q k) < 14
+then-below : (p q : Bool) (k : ℕ) → k < 14 → cond p (want q k) 11 < 14
 then-below true q k h = want-below q k h
 then-below false q k h = omega arith
 

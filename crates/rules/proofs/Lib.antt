@@ -1,4 +1,5 @@
 -- From the tables up to the demands.
+pub mod Lists
 pub mod Against
 pub mod Answers
 pub mod Tests

@@ -37,6 +37,7 @@ use Rattle.rules.proofs.Calls.{held-11, two-11, toCell-used, var-live, 
 use Rattle.rules.proofs.Step.{taken, for-inv, for-right}
 use Rattle.rules.proofs.Facts.{call-refused}
 use Rattle.rules.proofs.Fresh.{dead}
+use Rattle.rules.proofs.Lists.{map-set}
 
 abbrev pub ren : (ℕ → ℕ) → Option ℕ → Option ℕ
 ren ρ none = none
@@ -54,11 +55,6 @@ pub record Sim (ρ : ℕ → ℕ) (h : Shape) (e : Endless) : Type 0 where
   pub inj : (a b : ℕ) → live (h .fields) a ≡ true → live (h .fields) b ≡ true → ρ a ≡ ρ b → a ≡ b
   pub below : (a : ℕ) → live (h .fields) a ≡ true → ρ a < e .next
   pub len : length (e .shape .fields) ≡ 2 * e .next
-
-map-set : (f : Option ℕ → Option ℕ) (l : List (Option ℕ)) (i : ℕ) (x : Option ℕ) → map f (set l i x) ≡ set (map f l) i (f x)
-map-set f [] i x = refl
-map-set f (y ∷ l) zero x = refl
-map-set f (y ∷ l) (suc i) x = ap (λ t. f y ∷ t) (map-set f l i x)
 
 module _ (s : Sizes) (ok : Limits s) (h : Shape) (t : Tables) (g : Good (s .n) (s .cap) (h .fields) (h .variables) t) (ρ : ℕ → ℕ) (e : Endless) (R : Sim ρ h e) where
   var-ren : (v : ℕ) → var (e .shape) v ≡ ren ρ (var h v)
@@ -138,7 +134,7 @@ module _ (s : Sizes) (ok : Limits s) (h : Shape) (t : Tables) (g : Good (s .n) (
 
   sim-hold : (v : ℕ) (o o′ : Option ℕ) → o′ ≡ ren ρ o → Sim ρ (hold h v o) (record { shape = hold (e .shape) v o′; next = e .next })
   unfolding hold
-  sim-hold v o o′ p = record { vars = rw (p, R .vars) (sym (map-set (ren ρ) (h .variables) v o)); cells = R .cells; inj = R .inj; below = R .below; len = R .len }
+  sim-hold v o o′ p = record { vars = rw (p, R .vars) (sym (map-set (ren ρ) v o (h .variables))); cells = R .cells; inj = R .inj; below = R .below; len = R .len }
 
   sim-store : (a f : ℕ) (x x′ : Field) → f < 2 → live (h .fields) a ≡ true → used x ≡ true → x′ ≡ renF ρ x
       → Sim ρ (record { fields = store (h .fields) a f x; variables = h .variables }) (record { shape = record { fields = store (e .shape .fields) (ρ a) f x′; variables = e .shape .variables }; next = e .next })
@@ -288,7 +284,7 @@ module _ (s : Sizes) (ok : Limits s) (h : Heap) (g : Inv s h) (d : noneFree s h 
   unfolding takeCell hold endlessRun place
   sim-take v =
       record {
-        vars = ap₂ (λ l o. set l v o) (R .vars ∙ map-agree ρ extend (h .shape .variables) (λ a k. extend-live a (g .good .held a k))) (ap some (sym extend-first)) ∙ sym (map-set (ren extend) (h .shape .variables) v (some (h .first)));
+        vars = ap₂ (λ l o. set l v o) (R .vars ∙ map-agree ρ extend (h .shape .variables) (λ a k. extend-live a (g .good .held a k))) (ap some (sym extend-first)) ∙ sym (map-set (ren extend) v (some (h .first)) (h .shape .variables));
         cells = λ a f l k. fields a f (now a l) k;
         inj = λ a b l m. one (now a l) (now b m);
         below = λ a l. low a (now a l);

@@ -14,7 +14,6 @@ use Rattle.rules.specs.Rules.{Tables, Transaction, allocates, creates, destroys
 use Rattle.rules.specs.Rows.{TableRows, tableRows}
 use Rattle.rules.specs.Whole.{Is, Kept, Ready}
 use Rattle.rules.specs.Invariant.{named}
-use Rattle.rules.specs.Rows.{Bounds}
 use Rattle.rules.proofs.Sorted.{insert-up, all-insert, leaveZct-kept, apply-kept}
 use Rattle.tables.specs.Row.{cut, Listed, Counted, Pair, Tabled, RowBy, MrtBy, TablesBy, ZctBy}
 use Rattle.tables.proofs.Places.{place-at, has-at, remove-cut, count-none}
