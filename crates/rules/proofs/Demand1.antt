@@ -200,7 +200,7 @@ module _ (s : Sizes) (r : Lent) where
       go false d e = absurd (omega arith)
 
 module _ (h : Head) (r : Lent) where
-  audit-1 : (Sized h r → ⊥) → auditOf h r ≡ leaves (outcome 1 h 0) r
+  pub audit-1 : (Sized h r → ⊥) → auditOf h r ≡ leaves (outcome 1 h 0) r
   unfolding auditOf
   audit-1 z = rw (false-sized h r z)
 
