@@ -17,7 +17,7 @@ use Rattle.rules.specs.declared.Field.{Field}
 use Rattle.rules.specs.declared.Field.the-variants.{Nothing, Figure, Cell, Free}
 use Rattle.rules.specs.Table.{has, Ascending}
 use Rattle.rules.specs.Rules.{Tables, destroys, leaveZct, apply, replay}
-use Rattle.rules.specs.Settle.{Heap, holds, pick, drops, freeCell, reclaim}
+use Rattle.rules.specs.Settle.{Heap, field, holds, pick, drops, freeCell, reclaim}
 use Rattle.rules.specs.Rows.{Rows}
 use Rattle.rules.specs.Invariant.{View, view}
 use Rattle.rules.proofs.Tables.{view-other, remove-other}
@@ -213,7 +213,8 @@ module _ {n cap : ℕ} {hs : List (Option ℕ)} {ks : List ℕ} {xs : List ℤ} 
             rows = rw e (F .rows);
             count = rw e (omega arith);
             below = λ w o b.
-                let q = has-released cap (getD zs p 0) w _ _ (reclaim cap hs k h .tables) (rw (F .low) at b) (rw e at o) in
+                let x = field (reclaim cap hs k h .shape .fields) (getD zs p 0) in
+                let q = has-released cap (getD zs p 0) w (x 0) (x 1) (reclaim cap hs k h .tables) (rw (F .low) at b) (rw e at o) in
                 let g = entry p l in
                 let r = has-before (reclaim cap hs k h .tables .zct) p w (G .rows .ready .kept .zct-up) (omega arith) (q .1) (rw (← g) at (q .0)) in
                 rw (r .1) at (held-before (place w (reclaim cap hs k h .tables .zct)) (r .0));

@@ -108,5 +108,5 @@ module _ {n cap : ℕ} {ks : List ℕ} {xs vs : List ℤ} {zs ms cs log work : L
 pub room-made : {b : Bool} {n cap : ℕ} {ks : List ℕ} {xs vs : List ℤ} {zs ms cs log work : List ℕ} {l : ℕ} {r : Reclaimed} {o : Room} {h : Heap} (s : Sizes)
     → b ≡ true → Settled s n cap (h .shape .variables) ks xs vs zs ms cs log work l r h → o ≡ record { first = r .first; used = r .used; len = 0; freed = r .freed }
     → RoomMade b s n cap ks xs vs zs ms cs log work o h
-unfolding settledIf settled
+unfolding settledIf
 room-made s e S q = rw (e, q) (record { whole = S .whole; count = S .count })

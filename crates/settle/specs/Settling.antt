@@ -32,5 +32,5 @@ pub record Settled (s : Sizes) (n cap : ℕ) (hs : List (Option ℕ)) (ks : List
 
 -- all rows are h, settled where b says so, and so many cells were freed
 pub record RoomMade (b : Bool) (s : Sizes) (n cap : ℕ) (ks : List ℕ) (xs vs : List ℤ) (zs ms cs log work : List ℕ) (r : Room) (h : Heap) : Type 0 where
-  pub whole : Whole n cap ks xs vs zs ms cs log work (r .len) (r .first) (r .used) (settledIf b s h)
-  pub count : settledIf b s h .freed ≡ h .freed + r .freed
+  pub whole : Whole n cap ks xs vs zs ms cs log work (r .len) (r .first) (r .used) (settledIf b s (h .shape .variables) h)
+  pub count : settledIf b s (h .shape .variables) h .freed ≡ h .freed + r .freed
