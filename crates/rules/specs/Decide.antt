@@ -286,7 +286,7 @@ sound? h r =
     need (dec-zeros (r .log) 0) (λ s. s .log-zero) (λ log-zero.
     yes (record { cells = cells; tables = tables; free-list = free-list; agree = agree; held = held; log-zero = log-zero })))))))
 
-abbrev dec-limits : (s : Sizes) → Dec (Limits s)
+abbrev pub dec-limits : (s : Sizes) → Dec (Limits s)
 dec-limits s =
     need (decLe 1 (s .n)) (λ l. l .n-least) (λ n-least.
     need (decLe (s .n) 1024) (λ l. l .n-most) (λ n-most.
