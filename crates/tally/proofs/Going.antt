@@ -1,5 +1,5 @@
 -- What holds between two batches of a script. Assumes nothing.
-use Prim.Native.Nat.{ℕ, _*_, _≤_}
+use Prim.Native.Nat.{ℕ, _+_, _*_, _≤_}
 use native.Mathlib.Omega.{arith}
 use lib.Seq.{length-take-le}
 use mathlib.Core.Path.{_≡_, sym}
@@ -8,11 +8,11 @@ use lib.IntN.{ℤ}
 use lib.ListN.{length, take}
 use Rattle.tally.specs.declared.Place.{Place}
 
--- each call of a closed batch has had a line of its own, and the two rows of a batch have their lengths
+-- each call of a batch has had a line of its own, and the two rows of a batch have their lengths
 pub record Going (calls answers : List ℤ) (place : Place) : Type 0 where
   pub calls-length : length calls ≡ 1024
   pub answers-length : length answers ≡ 512
-  pub own : place .closed ≤ place .lines
+  pub own : place .closed + place .calls ≤ place .lines
   pub most : place .lines ≤ 1000000
 
 -- the heap's rows have the lengths that they had

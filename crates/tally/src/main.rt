@@ -19,26 +19,42 @@ const CALLS_MOST: usize = 256;
 // More lines than any script has.
 const LINES_MOST: usize = 1000000;
 
-// How far a script is read: where the next line starts, the lines read, the calls of the closed
-// batches and of the open one, and whether the last line was bad.
+// How far a script is read: where the next line starts, the lines read, the calls of the closed batches and of the batch read
+// last, whether no batch was left to read, and whether the last line was bad.
 struct Place {
     at: usize,
     lines: usize,
     closed: usize,
     calls: usize,
+    ended: bool,
     bad: bool,
 }
 
 impl Place {
-    fn new(at: usize, lines: usize, closed: usize, calls: usize, bad: bool) -> Place
-        ensures { λ r. ⌜ (r .lines ≡ lines) × (r .closed ≡ closed) × (r .calls ≡ calls) ⌝ }
+    fn new(at: usize, lines: usize, closed: usize, calls: usize, ended: bool) -> Place
+        ensures { λ r. ⌜ (r .lines ≡ lines) × (r .closed ≡ closed) × (r .calls ≡ calls) × (r .ended ≡ ended) ⌝ }
     {
         Place {
             at: at,
             lines: lines,
             closed: closed,
             calls: calls,
-            bad: bad,
+            ended: ended,
+            bad: false,
+        }
+    }
+
+    // After a bad line.
+    fn bad(at: usize, lines: usize, closed: usize) -> Place
+        ensures { λ r. ⌜ (r .lines ≡ lines) × (r .closed ≡ closed) × (r .calls ≡ 0) ⌝ }
+    {
+        Place {
+            at: at,
+            lines: lines,
+            closed: closed,
+            calls: 0,
+            ended: true,
+            bad: true,
         }
     }
 }
@@ -154,8 +170,9 @@ fn print_free(n: usize) {
     print::text(b"\n");
 }
 
-// The lines at the end.
-fn print_heap(
+// The lines at the end: the heap's, or that of a bad line.
+fn print_end(
+    place: Place,
     head: Head,
     kinds: &[u8],
     variables: &[i32],
@@ -163,6 +180,10 @@ fn print_heap(
     mrt: &[u32],
     counts: &[u32],
 ) {
+    if place.bad {
+        print_bad(place.lines);
+        return;
+    }
     print_zct(zct, head.zct);
     print_mrt(mrt, counts, head.mrt);
     print_variables(variables);
@@ -189,15 +210,15 @@ fn read_line(text: &[u8], at: usize, lines: usize, m: usize) -> Read
 
 // The lines up to the end of a batch: its calls, and how far the script is then read.
 fn gather(text: &[u8], from: Place, m: usize, calls: &mut [i32]) -> Place
-    requires { ⌜ (from .at < length (now text)) × (length (now calls) ≡ 1024) ⌝ }
-    requires { ⌜ (from .closed ≤ from .lines) × (from .lines < 1000000) ⌝ }
+    requires { ⌜ length (now calls) ≡ 1024 ⌝ }
+    requires { ⌜ (from .closed + from .calls ≤ from .lines) × (from .lines ≤ 1000000) ⌝ }
     ensures { λ r. ⌜ Gathered from r ⌝ }
 {
-    let closed = from.closed;
+    let closed = from.closed + from.calls;
     let mut at = from.at;
     let mut lines = from.lines;
     let mut count = 0;
-    loop {
+    while at < text.len() && lines < LINES_MOST {
         let read = read_line(text, at, lines, m);
         let line = read.line;
         at = read.next;
@@ -205,7 +226,7 @@ fn gather(text: &[u8], from: Place, m: usize, calls: &mut [i32]) -> Place
         match line {
             Line::Call(op, a, b, c) => {
                 if CALLS_MOST <= count {
-                    return Place::new(at, lines, closed, 0, true);
+                    return Place::bad(at, lines, closed);
                 }
                 keep(calls, count, op, a, b, c);
                 count += 1;
@@ -214,16 +235,11 @@ fn gather(text: &[u8], from: Place, m: usize, calls: &mut [i32]) -> Place
                 return Place::new(at, lines, closed, count, false);
             }
             _ => {
-                return Place::new(at, lines, closed, 0, true);
+                return Place::bad(at, lines, closed);
             }
         }
-        if text.len() <= at {
-            return Place::new(at, lines, closed, count, false);
-        }
-        if LINES_MOST <= lines {
-            return Place::new(at, lines, closed, count, false);
-        }
     }
+    Place::new(at, lines, closed, count, lines <= from.lines)
 }
 
 // A script after its heap line, on rows of the heap's lengths: its batches, and the lines at the end; nothing after a bad line.
@@ -245,11 +261,10 @@ fn run(
     let mut calls = [0i32; 1024];
     let mut answers = [0i32; 512];
     let mut place = Place::new(start, 1, 0, 0, false);
-    while place.at < text.len() && place.lines < LINES_MOST {
+    loop {
         place = gather(text, place, sizes.m, &mut calls);
-        if place.bad {
-            print_bad(place.lines);
-            return;
+        if place.ended {
+            break;
         }
         let words = 4 * place.calls;
         let done = heap::batch(
@@ -267,9 +282,8 @@ fn run(
         );
         head = done.head;
         print_answers(done.status, &answers, place.calls, place.closed);
-        place.closed += place.calls;
     }
-    print_heap(head, kinds, variables, zct, mrt, counts);
+    print_end(place, head, kinds, variables, zct, mrt, counts);
 }
 
 // A script after its heap line: each row is lent at its length.

@@ -22,8 +22,11 @@ made c = search needs
 abbrev turned : tie.After-gather Inv-loop μ-loop → tie.At-loop Inv-loop μ-loop
 turned c = search needs
 
-abbrev gathered : tie.After-batch Inv-loop μ-loop → tie.After-gather Inv-loop μ-loop
+abbrev gathered : tie.Else1 Inv-loop μ-loop → tie.After-gather Inv-loop μ-loop
 gathered c = search needs
+
+abbrev going : tie.After-batch Inv-loop μ-loop → tie.Else1 Inv-loop μ-loop
+going c = search needs
 
 fresh-requires : tie.Need-fresh-requires Inv-loop μ-loop
 fresh-requires c κs = search needs
@@ -40,8 +43,69 @@ slice-aggregate-gather c = search needs
 gather-requires : tie.Need-gather-requires Inv-loop μ-loop
 gather-requires c κs = search needs
 
-print-bad-requires : tie.Need-print-bad-requires Inv-loop μ-loop
-print-bad-requires c κs = search needs
+mul-words : tie.Need-mul-words Inv-loop μ-loop
+mul-words c = search needs
+
+array-share-prefix-calls : tie.Need-array-share-prefix-calls Inv-loop μ-loop
+array-share-prefix-calls c = search needs
+
+slice-aggregate-batch : tie.Need-slice-aggregate-batch Inv-loop μ-loop
+slice-aggregate-batch c =
+    let g : tie.After-gather Inv-loop μ-loop = search needs in
+    let i = turned g .loop .inv .0 in
+    part-length _ _ (g .gather .ensures .batch) (g .gather .kept .1 .1 .1 .0 ∙ i .calls-length)
+
+slice-aggregate-batch-2 : tie.Need-slice-aggregate-batch-2 Inv-loop μ-loop
+slice-aggregate-batch-2 c =
+    let g : tie.After-gather Inv-loop μ-loop = search needs in
+    let i = turned g .loop .inv .0 in
+    sym (i .answers-length)
+
+batch-requires : tie.Need-batch-requires Inv-loop μ-loop
+batch-requires c κs = search needs
+
+print-answers-requires : tie.Need-print-answers-requires Inv-loop μ-loop
+print-answers-requires c κs =
+    let b : tie.After-batch Inv-loop μ-loop = search needs in
+    let g = gathered (going b) in
+    let i = turned g .loop .inv .0 in
+    let h = g .gather .ensures in
+    (omega arith, omega arith)
+
+loop-less : tie.Need-loop-less Inv-loop μ-loop
+loop-less c =
+    let b : tie.After-batch Inv-loop μ-loop = search needs in
+    let g = gathered (going b) in
+    let i = turned g .loop .inv .0 in
+    let h = g .gather .ensures in
+    let m = h .more (going b .if1 .left) in
+    omega arith
+
+loop-again : tie.Need-loop-again Inv-loop μ-loop
+loop-again c =
+    let b : tie.After-batch Inv-loop μ-loop = search needs in
+    let g = gathered (going b) in
+    let i = turned g .loop .inv in (
+      record {
+        calls-length = g .gather .kept .1 .1 .1 .0 ∙ i .0 .calls-length;
+        answers-length = b .batch .kept .1 .1 .1 .1 .1 .1 .1 .1 .1 .1 .0 ∙ i .0 .answers-length;
+        own = g .gather .ensures .own;
+        most = g .gather .ensures .most;
+      },
+      record {
+        kinds = b .batch .kept .1 .0 ∙ i .1 .kinds;
+        values = b .batch .kept .1 .1 .0 ∙ i .1 .values;
+        variables = b .batch .kept .1 .1 .1 .0 ∙ i .1 .variables;
+        zct = b .batch .kept .1 .1 .1 .1 .0 ∙ i .1 .zct;
+        mrt = b .batch .kept .1 .1 .1 .1 .1 .0 ∙ i .1 .mrt;
+        counts = b .batch .kept .1 .1 .1 .1 .1 .1 .0 ∙ i .1 .counts;
+        log = b .batch .kept .1 .1 .1 .1 .1 .1 .1 .0 ∙ i .1 .log;
+        work = b .batch .kept .1 .1 .1 .1 .1 .1 .1 .1 .0 ∙ i .1 .work;
+      },
+    )
+
+print-end-requires : tie.Need-print-end-requires Inv-loop μ-loop
+print-end-requires c κs = search needs
 
 same-length : tie.Need-same-length Inv-loop μ-loop
 same-length c = let l : tie.At-loop Inv-loop μ-loop = search needs in l .loop .inv .1 .kinds ∙ made l .fresh .kept .1 .0
@@ -70,104 +134,6 @@ same-length-8 c = let l : tie.At-loop Inv-loop μ-loop = search needs in l .loop
 returns : tie.Need-returns Inv-loop μ-loop
 returns c = search needs
 
-mul-words : tie.Need-mul-words Inv-loop μ-loop
-mul-words c = search needs
-
-array-share-prefix-calls : tie.Need-array-share-prefix-calls Inv-loop μ-loop
-array-share-prefix-calls c = search needs
-
-slice-aggregate-batch : tie.Need-slice-aggregate-batch Inv-loop μ-loop
-slice-aggregate-batch c =
-    let g : tie.After-gather Inv-loop μ-loop = search needs in
-    let i = turned g .loop .inv .0 in
-    part-length _ _ (g .gather .ensures .batch) (g .gather .kept .1 .1 .1 .0 ∙ i .calls-length)
-
-slice-aggregate-batch-2 : tie.Need-slice-aggregate-batch-2 Inv-loop μ-loop
-slice-aggregate-batch-2 c =
-    let g : tie.After-gather Inv-loop μ-loop = search needs in
-    let i = turned g .loop .inv .0 in
-    sym (i .answers-length)
-
-batch-requires : tie.Need-batch-requires Inv-loop μ-loop
-batch-requires c κs = search needs
-
-print-answers-requires : tie.Need-print-answers-requires Inv-loop μ-loop
-print-answers-requires c κs =
-    let b : tie.After-batch Inv-loop μ-loop = search needs in
-    let g = gathered b in
-    let i = turned g .loop .inv .0 in
-    let h = g .gather .ensures in
-    (omega arith, omega arith)
-
-add-place : tie.Need-add-place Inv-loop μ-loop
-add-place c =
-    let b : tie.After-batch Inv-loop μ-loop = search needs in
-    let g = gathered b in
-    let i = turned g .loop .inv .0 in
-    let h = g .gather .ensures in
-    omega arith
-
-loop-less : tie.Need-loop-less Inv-loop μ-loop
-loop-less c =
-    let b : tie.After-batch Inv-loop μ-loop = search needs in
-    let g = gathered b in
-    let i = turned g .loop .inv .0 in
-    let h = g .gather .ensures in
-    omega arith
-
-loop-again : tie.Need-loop-again Inv-loop μ-loop
-loop-again c =
-    let b : tie.After-batch Inv-loop μ-loop = search needs in
-    let g = gathered b in
-    let i = turned g .loop .inv in (
-      record {
-        calls-length = g .gather .kept .1 .1 .1 .0 ∙ i .0 .calls-length;
-        answers-length = b .batch .kept .1 .1 .1 .1 .1 .1 .1 .1 .1 .1 .0 ∙ i .0 .answers-length;
-        own = g .gather .ensures .own;
-        most = g .gather .ensures .most;
-      },
-      record {
-        kinds = b .batch .kept .1 .0 ∙ i .1 .kinds;
-        values = b .batch .kept .1 .1 .0 ∙ i .1 .values;
-        variables = b .batch .kept .1 .1 .1 .0 ∙ i .1 .variables;
-        zct = b .batch .kept .1 .1 .1 .1 .0 ∙ i .1 .zct;
-        mrt = b .batch .kept .1 .1 .1 .1 .1 .0 ∙ i .1 .mrt;
-        counts = b .batch .kept .1 .1 .1 .1 .1 .1 .0 ∙ i .1 .counts;
-        log = b .batch .kept .1 .1 .1 .1 .1 .1 .1 .0 ∙ i .1 .log;
-        work = b .batch .kept .1 .1 .1 .1 .1 .1 .1 .1 .0 ∙ i .1 .work;
-      },
-    )
-
-print-heap-requires : tie.Need-print-heap-requires Inv-loop μ-loop
-print-heap-requires c κs = search needs
-
-same-length-9 : tie.Need-same-length-9 Inv-loop μ-loop
-same-length-9 c = let l : tie.At-loop Inv-loop μ-loop = search needs in l .loop .inv .1 .kinds ∙ made l .fresh .kept .1 .0
-
-same-length-10 : tie.Need-same-length-10 Inv-loop μ-loop
-same-length-10 c = let l : tie.At-loop Inv-loop μ-loop = search needs in l .loop .inv .1 .values ∙ made l .fresh .kept .1 .1 .0
-
-same-length-11 : tie.Need-same-length-11 Inv-loop μ-loop
-same-length-11 c = let l : tie.At-loop Inv-loop μ-loop = search needs in l .loop .inv .1 .variables ∙ made l .fresh .kept .1 .1 .1 .0
-
-same-length-12 : tie.Need-same-length-12 Inv-loop μ-loop
-same-length-12 c = let l : tie.At-loop Inv-loop μ-loop = search needs in l .loop .inv .1 .zct ∙ made l .fresh .kept .1 .1 .1 .1 .0
-
-same-length-13 : tie.Need-same-length-13 Inv-loop μ-loop
-same-length-13 c = let l : tie.At-loop Inv-loop μ-loop = search needs in l .loop .inv .1 .mrt ∙ made l .fresh .kept .1 .1 .1 .1 .1 .0
-
-same-length-14 : tie.Need-same-length-14 Inv-loop μ-loop
-same-length-14 c = let l : tie.At-loop Inv-loop μ-loop = search needs in l .loop .inv .1 .counts ∙ made l .fresh .kept .1 .1 .1 .1 .1 .1 .0
-
-same-length-15 : tie.Need-same-length-15 Inv-loop μ-loop
-same-length-15 c = let l : tie.At-loop Inv-loop μ-loop = search needs in l .loop .inv .1 .log ∙ made l .fresh .kept .1 .1 .1 .1 .1 .1 .1 .0
-
-same-length-16 : tie.Need-same-length-16 Inv-loop μ-loop
-same-length-16 c = let l : tie.At-loop Inv-loop μ-loop = search needs in l .loop .inv .1 .work ∙ made l .fresh .kept .1 .1 .1 .1 .1 .1 .1 .1 .0
-
-returns-2 : tie.Need-returns-2 Inv-loop μ-loop
-returns-2 c = search needs
-
 pub run-spec : {M : Type 1} → statement M
 run-spec =
     tie.close
@@ -179,7 +145,15 @@ run-spec =
     loop-holds
     slice-aggregate-gather
     gather-requires
-    print-bad-requires
+    mul-words
+    array-share-prefix-calls
+    slice-aggregate-batch
+    slice-aggregate-batch-2
+    batch-requires
+    print-answers-requires
+    loop-less
+    loop-again
+    print-end-requires
     same-length
     same-length-2
     same-length-3
@@ -188,23 +162,4 @@ run-spec =
     same-length-6
     same-length-7
     same-length-8
-    returns
-    mul-words
-    array-share-prefix-calls
-    slice-aggregate-batch
-    slice-aggregate-batch-2
-    batch-requires
-    print-answers-requires
-    add-place
-    loop-less
-    loop-again
-    print-heap-requires
-    same-length-9
-    same-length-10
-    same-length-11
-    same-length-12
-    same-length-13
-    same-length-14
-    same-length-15
-    same-length-16
-    returns-2)
+    returns)
