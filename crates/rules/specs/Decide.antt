@@ -82,15 +82,15 @@ abbrev dec-not : {P : Type 0} → Dec P → Dec (P → ⊥)
 dec-not d = dec-imp d dec-no
 
 -- every number below n
-pub all-at : (n : ℕ) (P : ℕ → Type 0) → P n → ((i : ℕ) → i < n → P i) → (i : ℕ) → i < suc n → P i
-all-at n P p a i h = go (ℕ-discrete i n)
+pub all-up-to : (n : ℕ) (P : ℕ → Type 0) → P n → ((i : ℕ) → i < n → P i) → (i : ℕ) → i < suc n → P i
+all-up-to n P p a i h = go (ℕ-discrete i n)
   where
     go : Dec (i ≡ n) → P i
     go (yes e) = subst P (sym e) p
     go (no x) = a i (omega arith)
 
 abbrev all-go : (n : ℕ) (P : ℕ → Type 0) → Dec (P n) → Dec ((i : ℕ) → i < n → P i) → Dec ((i : ℕ) → i < suc n → P i)
-all-go n P (yes p) (yes a) = yes (all-at n P p a)
+all-go n P (yes p) (yes a) = yes (all-up-to n P p a)
 all-go n P (no x) a = no (λ f. x (f n (omega arith)))
 all-go n P (yes p) (no x) = no (λ f. x (λ i h. f i (omega arith)))
 
