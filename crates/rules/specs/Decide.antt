@@ -316,11 +316,21 @@ dec-lengths h kinds values variables zct mrt counts log work =
     need (ℕ-discrete counts (h .sizes .n)) (λ l. l .for-counts) (λ for-counts.
     need (ℕ-discrete log (2 * h .sizes .l)) (λ l. l .for-log) (λ for-log.
     need (ℕ-discrete work (h .sizes .n)) (λ l. l .for-work) (λ for-work.
-    yes (record { for-kinds = for-kinds; for-values = for-values; for-variables = for-variables; for-zct = for-zct; for-mrt = for-mrt; for-counts = for-counts; for-log = for-log; for-work = for-work })))))))))
+    yes
+    (record {
+      for-kinds = for-kinds;
+      for-values = for-values;
+      for-variables = for-variables;
+      for-zct = for-zct;
+      for-mrt = for-mrt;
+      for-counts = for-counts;
+      for-log = for-log;
+      for-work = for-work;
+    })))))))))
 
 -- are the head's numbers within the limits, and the rows' lengths those that it says?
 unfoldable pub sized? : (h : Head) (r : Lent) → Dec (Sized h r)
 sized? h r =
     need (dec-within h) (λ z. z .within) (λ within.
-    need (dec-lengths h (length (r .kinds)) (length (r .values)) (length (r .variables)) (length (r .tables .zct)) (length (r .tables .mrt)) (length (r .tables .counts)) (length (r .log)) (length (r .work))) (λ z. z .lengths) (λ lengths.
+    need (dec-lengths h _ _ _ _ _ _ _ _) (λ z. z .lengths) (λ lengths.
     yes (record { within = within; lengths = lengths })))
