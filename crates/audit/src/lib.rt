@@ -1,21 +1,19 @@
 // Is a heap sound? The rows may hold anything.
 ghost use mathlib.Core.Path.{_≡_};
-ghost use Prim.Native.Nat.{_*_, _≤_};
+ghost use Prim.Native.Nat.{_≤_};
 ghost use lib.ListN.{length, replicate};
-ghost use Rattle.rules.specs.Head.{Says, Limits};
-ghost use Rattle.rules.specs.Rows.{lent};
-ghost use Rattle.rules.specs.Sound.{FreeList, Lengths, Sized, Sound};
+ghost use Rattle.rules.specs.Head.{Says, Within};
+ghost use Rattle.rules.specs.Lending.{tablesNow, tableEntries, rowsNow, entries, exits};
+ghost use Rattle.rules.specs.Sound.{CellsSound, TablesSound, FreeList, pointersTo, Agree, ZctHeld, Lengths, Sized, Sound};
 ghost use Rattle.rules.specs.Refusals.{outcome, leaves, auditOf};
 ghost use Rattle.checks.specs.CellRows.{CellRows};
-ghost use Rattle.checks.specs.Counts.{TablesReady, Within};
-ghost use Rattle.audit.specs.Parts.{CellsSound, TableSound, CountsSound, TablesSound, PointersSound, HeldSound, RowsSound, WorkSound, WorkReady, Named};
+ghost use Rattle.checks.specs.Counts.{TablesFit, EntriesBelow, Addressed};
 use cells::clear;
 use cells::mark_held;
 use checks::all_held;
 use checks::all_met;
 use checks::compare;
 use checks::count;
-use checks::ranged;
 use checks::table;
 use checks::walk;
 use checks::words;
@@ -37,56 +35,19 @@ fn cells_sound(kinds: &[u8], values: &[i32], variables: &[i32], n: usize) -> boo
     true
 }
 
-// Is a row of addresses as it is to be?
-fn table_sound(kinds: &[u8], n: usize, row: &[u32], used: usize) -> bool
-    requires { ⌜ (length (now kinds) ≡ 2 * n) × ((n ≤ 1024) × (used ≤ length (now row))) ⌝ }
-    ensures { λ r. ⌜ Says r (TableSound n (now (kinds .entry)) (now (row .entry)) used) ⌝ }
-{
-    if !table(kinds, n, row, used) {
-        return false;
-    }
-    if !zero_from(row, used) {
-        return false;
-    }
-    true
-}
-
-// Is the row of counts as it is to be?
-fn counts_sound(counts: &[u32], used: usize, cap: usize) -> bool
-    requires { ⌜ used ≤ length (now counts) ⌝ }
-    ensures { λ r. ⌜ Says r (CountsSound (now (counts .entry)) used cap) ⌝ }
-{
-    if !ranged(counts, used, cap) {
-        return false;
-    }
-    if !zero_from(counts, used) {
-        return false;
-    }
-    true
-}
-
 // Are the tables' rows as they are to be?
-fn tables_sound(
-    kinds: &[u8],
-    n: usize,
-    zct: &[u32],
-    zused: usize,
-    mrt: &[u32],
-    counts: &[u32],
-    mused: usize,
-    cap: usize,
-) -> bool
-    requires { ⌜ (length (now kinds) ≡ 2 * n) × (n ≤ 1024) ⌝ }
-    requires { ⌜ (zused ≤ length (now zct)) × ((mused ≤ length (now mrt)) × (mused ≤ length (now counts))) ⌝ }
-    ensures { λ r. ⌜ Says r (TablesSound n (now (kinds .entry)) (now (zct .entry)) zused (now (mrt .entry)) (now (counts .entry)) mused cap) ⌝ }
+fn tables_sound(head: Head, kinds: &[u8], zct: &[u32], mrt: &[u32], counts: &[u32]) -> bool
+    requires { ⌜ TablesFit head (now kinds) (tablesNow zct mrt counts) ⌝ }
+    ensures { λ r. ⌜ Says r (TablesSound head (now (kinds .entry)) (tableEntries zct mrt counts)) ⌝ }
 {
-    if !table_sound(kinds, n, zct, zused) {
+    let n = head.sizes.n;
+    if !table(kinds, n, zct, head.zct) {
         return false;
     }
-    if !table_sound(kinds, n, mrt, mused) {
+    if !table(kinds, n, mrt, head.mrt) {
         return false;
     }
-    if !counts_sound(counts, mused, cap) {
+    if !checks::counts(counts, head.mrt, head.sizes.cap) {
         return false;
     }
     true
@@ -103,8 +64,9 @@ fn pointers_sound(
     work: &mut [u32],
 ) -> bool
     requires { ⌜ CellRows (head .sizes .n) (now kinds) (now values) ⌝ }
-    requires { ⌜ (length (now work) ≡ head .sizes .n) × TablesReady (head .sizes .n) (now kinds) (now zct) (head .zct) (now mrt) (now counts) (head .mrt) ⌝ }
-    ensures { λ r. ⌜ Says r (PointersSound (head .sizes .n) (now (kinds .entry)) (now (values .entry)) (now (zct .entry)) (head .zct) (now (mrt .entry)) (now (counts .entry)) (head .mrt) (head .sizes .cap)) ⌝ }
+    requires { ⌜ length (now work) ≡ head .sizes .n ⌝ }
+    requires { ⌜ TablesFit head (now kinds) (tablesNow zct mrt counts) × TablesSound head (now kinds) (tablesNow zct mrt counts) ⌝ }
+    ensures { λ r. ⌜ Says r (Agree head (now (kinds .entry)) (tableEntries zct mrt counts) (pointersTo (head .sizes .n) (now (kinds .entry)) (now (values .entry)))) ⌝ }
 {
     clear(work);
     count(kinds, values, head.sizes.n, work);
@@ -112,14 +74,13 @@ fn pointers_sound(
 }
 
 // Does some variable hold each of the used entries?
-fn held_sound(variables: &[i32], n: usize, zct: &[u32], zused: usize, work: &mut [u32]) -> bool
-    requires { ⌜ (zused ≤ length (now zct)) × (length (now work) ≡ n) ⌝ }
-    requires { ⌜ Within (now zct) zused n ⌝ }
-    requires { ⌜ Named (now variables) ⌝ }
-    ensures { λ r. ⌜ Says r (HeldSound n (now (variables .entry)) (now (zct .entry)) zused) ⌝ }
+fn held_sound(variables: &[i32], n: usize, zct: &[u32], used: usize, work: &mut [u32]) -> bool
+    requires { ⌜ (used ≤ length (now zct)) × (length (now work) ≡ n) ⌝ }
+    requires { ⌜ EntriesBelow (now zct) used n × Addressed (now variables) ⌝ }
+    ensures { λ r. ⌜ Says r (ZctHeld n (now (variables .entry)) (now (zct .entry)) used) ⌝ }
 {
     mark_held(variables, work);
-    all_held(zct, zused, work)
+    all_held(zct, used, work)
 }
 
 // Does the free list meet every free cell once?
@@ -135,65 +96,7 @@ fn frees_sound(kinds: &[u8], values: &[i32], n: usize, first: usize, work: &mut 
     all_met(kinds, n, work)
 }
 
-// Is all that shows without the work row as it is to be?
-fn rows_sound(
-    head: Head,
-    kinds: &[u8],
-    values: &[i32],
-    variables: &[i32],
-    zct: &[u32],
-    mrt: &[u32],
-    counts: &[u32],
-    log: &[u32],
-) -> bool
-    requires { ⌜ CellRows (head .sizes .n) (now kinds) (now values) ⌝ }
-    requires { ⌜ (head .zct ≤ length (now zct)) × ((head .mrt ≤ length (now mrt)) × (head .mrt ≤ length (now counts))) ⌝ }
-    ensures { λ r. ⌜ Says r (RowsSound head (now (kinds .entry)) (now (values .entry)) (now (variables .entry)) (now (zct .entry)) (now (mrt .entry)) (now (counts .entry)) (now (log .entry))) ⌝ }
-{
-    let n = head.sizes.n;
-    let zused = head.zct;
-    let mused = head.mrt;
-    let cap = head.sizes.cap;
-    if !cells_sound(kinds, values, variables, n) {
-        return false;
-    }
-    if !tables_sound(kinds, n, zct, zused, mrt, counts, mused, cap) {
-        return false;
-    }
-    if !zero_from(log, 0) {
-        return false;
-    }
-    true
-}
-
-// And what shows through the work row?
-fn work_sound(
-    head: Head,
-    kinds: &[u8],
-    values: &[i32],
-    variables: &[i32],
-    zct: &[u32],
-    mrt: &[u32],
-    counts: &[u32],
-    work: &mut [u32],
-) -> bool
-    requires { ⌜ WorkReady head (now kinds) (now values) (now variables) (now zct) (now mrt) (now counts) (now work) ⌝ }
-    ensures { λ r. ⌜ Says r (WorkSound head (now (kinds .entry)) (now (values .entry)) (now (variables .entry)) (now (zct .entry)) (now (mrt .entry)) (now (counts .entry))) ⌝ }
-{
-    let n = head.sizes.n;
-    if !frees_sound(kinds, values, n, head.free, work) {
-        return false;
-    }
-    if !pointers_sound(head, kinds, values, zct, mrt, counts, work) {
-        return false;
-    }
-    if !held_sound(variables, n, zct, head.zct, work) {
-        return false;
-    }
-    true
-}
-
-// Is every part of the heap sound?
+// Is every part of the heap sound? First what shows without the work row.
 fn parts_sound(
     head: Head,
     kinds: &[u8],
@@ -205,13 +108,29 @@ fn parts_sound(
     log: &[u32],
     work: &mut [u32],
 ) -> bool
-    requires { ⌜ Sized head (lent (now kinds) (now values) (now variables) (now zct) (now mrt) (now counts) (now log) (now work)) ⌝ }
-    ensures { λ r. ⌜ Says r (Sound head (lent (now (kinds .entry)) (now (values .entry)) (now (variables .entry)) (now (zct .entry)) (now (mrt .entry)) (now (counts .entry)) (now (log .entry)) (now (work .entry)))) ⌝ }
+    requires { ⌜ Sized head (rowsNow kinds values variables zct mrt counts log work) ⌝ }
+    ensures { λ r. ⌜ Says r (Sound head (entries kinds values variables zct mrt counts log work)) ⌝ }
 {
-    if !rows_sound(head, kinds, values, variables, zct, mrt, counts, log) {
+    let n = head.sizes.n;
+    if !cells_sound(kinds, values, variables, n) {
         return false;
     }
-    work_sound(head, kinds, values, variables, zct, mrt, counts, work)
+    if !tables_sound(head, kinds, zct, mrt, counts) {
+        return false;
+    }
+    if !zero_from(log, 0) {
+        return false;
+    }
+    if !frees_sound(kinds, values, n, head.free, work) {
+        return false;
+    }
+    if !pointers_sound(head, kinds, values, zct, mrt, counts, work) {
+        return false;
+    }
+    if !held_sound(variables, n, zct, head.zct, work) {
+        return false;
+    }
+    true
 }
 
 // Is the heap sound? The work row may hold anything, and is zero afterwards.
@@ -226,8 +145,8 @@ pub fn sound(
     log: &[u32],
     work: &mut [u32],
 ) -> bool
-    requires { ⌜ Sized head (lent (now kinds) (now values) (now variables) (now zct) (now mrt) (now counts) (now log) (now work)) ⌝ }
-    ensures { λ r. ⌜ Says r (Sound head (lent (now (kinds .entry)) (now (values .entry)) (now (variables .entry)) (now (zct .entry)) (now (mrt .entry)) (now (counts .entry)) (now (log .entry)) (now (work .entry)))) ⌝ }
+    requires { ⌜ Sized head (rowsNow kinds values variables zct mrt counts log work) ⌝ }
+    ensures { λ r. ⌜ Says r (Sound head (entries kinds values variables zct mrt counts log work)) ⌝ }
     ensures { λ _. ⌜ now (work .exit) ≡ replicate (head .sizes .n) 0 ⌝ }
 {
     let yes = parts_sound(head, kinds, values, variables, zct, mrt, counts, log, work);
@@ -247,7 +166,7 @@ pub fn sized(
     log: usize,
     work: usize,
 ) -> bool
-    ensures { λ r. ⌜ Says r (Limits head × Lengths head kinds values variables zct mrt counts log work) ⌝ }
+    ensures { λ r. ⌜ Says r (Within head × Lengths head kinds values variables zct mrt counts log work) ⌝ }
 {
     if !head.within() {
         return false;
@@ -288,9 +207,7 @@ pub fn audit(
     log: &[u32],
     work: &mut [u32],
 ) -> Outcome
-    ensures { λ r.
-        ⌜ leaves r (lent (now (kinds .exit)) (now (values .exit)) (now (variables .exit)) (now (zct .exit)) (now (mrt .exit)) (now (counts .exit)) (now (log .exit)) (now (work .exit)))
-        ≡ auditOf head (lent (now (kinds .entry)) (now (values .entry)) (now (variables .entry)) (now (zct .entry)) (now (mrt .entry)) (now (counts .entry)) (now (log .entry)) (now (work .entry))) ⌝ }
+    ensures { λ r. ⌜ leaves r (exits kinds values variables zct mrt counts log work) ≡ auditOf head (entries kinds values variables zct mrt counts log work) ⌝ }
 {
     if !sized(
         head,

@@ -9,8 +9,9 @@ use lib.Dec.{eqb, ltb}
 use lib.ListN.{getD}
 use borrow.Author.Tests.{eqb-true, eqb-false, ltb-true, ltb-false}
 use borrow.Author.Count.{below-more}
-use Rattle.rules.specs.Sound.{mark, Live, TableRow, At, NotIn}
-use Rattle.checks.specs.Counts.{AgreeWith, Agree}
+use Rattle.rules.specs.declared.Head.{Head}
+use Rattle.rules.specs.Rows.{TableRows}
+use Rattle.rules.specs.Sound.{mark, Live, TableRow, TablesSound, At, NotIn, Agree}
 
 -- the entries before z are below a, and the others are not
 pub record Place (row : List ℕ) (used a z : ℕ) : Type 0 where
@@ -75,79 +76,101 @@ module _ (n : ℕ) (ks row : List ℕ) (used : ℕ) (t : TableRow n ks row used)
       go false e = let k = ltb-false z used e in let w = p .most in omega arith
 
 -- what has been compared once the address is a
-pub record Gone (n : ℕ) (ks zs : List ℕ) (zct : ℕ) (ms cs : List ℕ) (mrt cap : ℕ) (work : List ℕ) (a z q : ℕ) : Type 0 where
-  pub zplace : Place zs zct a z
-  pub qplace : Place ms mrt a q
-  pub most : a ≤ n
-  pub zmost : z ≤ zct
-  pub qmost : q ≤ mrt
-  pub apart : (i : ℕ) → i < z → (j : ℕ) → j < q → getD zs i 0 ≡ getD ms j 0 → ⊥
-  pub one : (b : ℕ) → b < a → Live n ks b → NotIn zs zct b → NotIn ms mrt b → getD work b 0 ≡ 1
-  pub none : (j : ℕ) → j < z → getD work (getD zs j 0) 0 ≡ 0
-  pub exact : (j : ℕ) → j < q → getD cs j 0 < cap → getD work (getD ms j 0) 0 ≡ getD cs j 0
+pub record Gone (h : Head) (ks : List ℕ) (t : TableRows) (count : ℕ → ℕ) (a z q : ℕ) : Type 0 where
+  pub zplace : Place (t .zct) (h .zct) a z
+  pub qplace : Place (t .mrt) (h .mrt) a q
+  pub most : a ≤ h .sizes .n
+  pub zmost : z ≤ h .zct
+  pub qmost : q ≤ h .mrt
+  pub apart : (i : ℕ) → i < z → (j : ℕ) → j < q → getD (t .zct) i 0 ≡ getD (t .mrt) j 0 → ⊥
+  pub one : (b : ℕ) → b < a → Live (h .sizes .n) ks b → NotIn (t .zct) (h .zct) b → NotIn (t .mrt) (h .mrt) b → count b ≡ 1
+  pub none : (j : ℕ) → j < z → count (getD (t .zct) j 0) ≡ 0
+  pub exact : (j : ℕ) → j < q → getD (t .counts) j 0 < h .sizes .cap → count (getD (t .mrt) j 0) ≡ getD (t .counts) j 0
 
-module _ (n : ℕ) (ks zs : List ℕ) (zct : ℕ) (ms cs : List ℕ) (mrt cap : ℕ) (work : List ℕ) where
-  pub gone-none : Gone n ks zs zct ms cs mrt cap work 0 0 0
+module _ (h : Head) (ks : List ℕ) (t : TableRows) (count : ℕ → ℕ) where
+  pub gone-none : Gone h ks t count 0 0 0
   gone-none =
       record {
-        zplace = begin zs zct;
-        qplace = begin ms mrt;
+        zplace = begin (t .zct) (h .zct);
+        qplace = begin (t .mrt) (h .mrt);
         most = omega arith;
         zmost = omega arith;
         qmost = omega arith;
-        apart = λ i h. absurd (omega arith);
-        one = λ b h. absurd (omega arith);
-        none = λ j h. absurd (omega arith);
-        exact = λ j h. absurd (omega arith);
+        apart = λ i k. absurd (omega arith);
+        one = λ b k. absurd (omega arith);
+        none = λ j k. absurd (omega arith);
+        exact = λ j k. absurd (omega arith);
       }
 
-  module _ (Z : TableRow n ks zs zct) (M : TableRow n ks ms mrt) (a z q : ℕ) (g : Gone n ks zs zct ms cs mrt cap work a z q) where
-    pub turn-zct : a < n → At zs zct z a → (At ms mrt q a → ⊥) → getD work a 0 ≡ 0 → Gone n ks zs zct ms cs mrt cap work (a + 1) (z + 1) q
-    turn-zct h i d e =
+  -- a is ZCT's next cell, MRT's next cell
+  abbrev pub InZct : ℕ → ℕ → Type 0
+  InZct a z = At (t .zct) (h .zct) z a
+
+  abbrev pub InMrt : ℕ → ℕ → Type 0
+  InMrt a q = At (t .mrt) (h .mrt) q a
+
+  module _ (T : TablesSound h ks t) (a z q : ℕ) (g : Gone h ks t count a z q) where
+    abbrev zct-in : InZct a z → Place (t .zct) (h .zct) (a + 1) (z + 1)
+    zct-in = in-next (h .sizes .n) ks (t .zct) (h .zct) (T .zct-row) a z (g .zplace)
+
+    abbrev zct-out : (InZct a z → ⊥) → Place (t .zct) (h .zct) (a + 1) z
+    zct-out = out-next (h .sizes .n) ks (t .zct) (h .zct) (T .zct-row) a z (g .zplace)
+
+    abbrev mrt-in : InMrt a q → Place (t .mrt) (h .mrt) (a + 1) (q + 1)
+    mrt-in = in-next (h .sizes .n) ks (t .mrt) (h .mrt) (T .mrt-row) a q (g .qplace)
+
+    abbrev mrt-out : (InMrt a q → ⊥) → Place (t .mrt) (h .mrt) (a + 1) q
+    mrt-out = out-next (h .sizes .n) ks (t .mrt) (h .mrt) (T .mrt-row) a q (g .qplace)
+
+    abbrev One : ℕ → Type 0
+    One b = Live (h .sizes .n) ks b → NotIn (t .zct) (h .zct) b → NotIn (t .mrt) (h .mrt) b → count b ≡ 1
+
+    pub turn-zct : a < h .sizes .n → InZct a z → (InMrt a q → ⊥) → count a ≡ 0 → Gone h ks t count (a + 1) (z + 1) q
+    turn-zct l i d e =
         record {
-          zplace = in-next n ks zs zct Z a z (g .zplace) i;
-          qplace = out-next n ks ms mrt M a q (g .qplace) d;
+          zplace = zct-in i;
+          qplace = mrt-out d;
           most = omega arith;
           zmost = omega (arith, i .0);
           qmost = g .qmost;
-          apart = below-more (λ i. (j : ℕ) → j < q → getD zs i 0 ≡ getD ms j 0 → ⊥) z (g .apart) (λ j k s. let w = g .qplace .below j k in let v = i .1 in omega arith);
-          one = below-more (λ b. Live n ks b → NotIn zs zct b → NotIn ms mrt b → getD work b 0 ≡ 1) a (g .one) (λ l o m. absurd (o z i));
-          none = below-more (λ j. getD work (getD zs j 0) 0 ≡ 0) z (g .none) (rw (i .1) e);
+          apart = below-more (λ i. (j : ℕ) → j < q → getD (t .zct) i 0 ≡ getD (t .mrt) j 0 → ⊥) z (g .apart) (λ j k s. let w = g .qplace .below j k in let v = i .1 in omega arith);
+          one = below-more One a (g .one) (λ l o m. absurd (o z i));
+          none = below-more (λ j. count (getD (t .zct) j 0) ≡ 0) z (g .none) (rw (i .1) e);
           exact = g .exact;
         }
 
-    pub turn-mrt : a < n → (At zs zct z a → ⊥) → At ms mrt q a → (getD cs q 0 < cap → getD work a 0 ≡ getD cs q 0) → Gone n ks zs zct ms cs mrt cap work (a + 1) z (q + 1)
-    turn-mrt h d i e =
+    pub turn-mrt : a < h .sizes .n → (InZct a z → ⊥) → InMrt a q → (getD (t .counts) q 0 < h .sizes .cap → count a ≡ getD (t .counts) q 0) → Gone h ks t count (a + 1) z (q + 1)
+    turn-mrt l d i e =
         record {
-          zplace = out-next n ks zs zct Z a z (g .zplace) d;
-          qplace = in-next n ks ms mrt M a q (g .qplace) i;
+          zplace = zct-out d;
+          qplace = mrt-in i;
           most = omega arith;
           zmost = g .zmost;
           qmost = omega (arith, i .0);
-          apart = λ x k. below-more (λ j. getD zs x 0 ≡ getD ms j 0 → ⊥) q (g .apart x k) (λ s. let w = g .zplace .below x k in let v = i .1 in omega arith);
-          one = below-more (λ b. Live n ks b → NotIn zs zct b → NotIn ms mrt b → getD work b 0 ≡ 1) a (g .one) (λ l o m. absurd (m q i));
+          apart = λ x k. below-more (λ j. getD (t .zct) x 0 ≡ getD (t .mrt) j 0 → ⊥) q (g .apart x k) (λ s. let w = g .zplace .below x k in let v = i .1 in omega arith);
+          one = below-more One a (g .one) (λ l o m. absurd (m q i));
           none = g .none;
-          exact = below-more (λ j. getD cs j 0 < cap → getD work (getD ms j 0) 0 ≡ getD cs j 0) q (g .exact) (rw (i .1) e);
+          exact = below-more (λ j. getD (t .counts) j 0 < h .sizes .cap → count (getD (t .mrt) j 0) ≡ getD (t .counts) j 0) q (g .exact) (rw (i .1) e);
         }
 
-    pub turn-one : a < n → (At zs zct z a → ⊥) → (At ms mrt q a → ⊥) → ((mark ks a ≡ 3 → ⊥) → getD work a 0 ≡ 1) → Gone n ks zs zct ms cs mrt cap work (a + 1) z q
-    turn-one h d i e =
+    pub turn-one : a < h .sizes .n → (InZct a z → ⊥) → (InMrt a q → ⊥) → ((mark ks a ≡ 3 → ⊥) → count a ≡ 1) → Gone h ks t count (a + 1) z q
+    turn-one l d i e =
         record {
-          zplace = out-next n ks zs zct Z a z (g .zplace) d;
-          qplace = out-next n ks ms mrt M a q (g .qplace) i;
+          zplace = zct-out d;
+          qplace = mrt-out i;
           most = omega arith;
           zmost = g .zmost;
           qmost = g .qmost;
           apart = g .apart;
-          one = below-more (λ b. Live n ks b → NotIn zs zct b → NotIn ms mrt b → getD work b 0 ≡ 1) a (g .one) (λ l o m. e (l .used));
+          one = below-more One a (g .one) (λ l o m. e (l .used));
           none = g .none;
           exact = g .exact;
         }
 
-    pub agreed : n ≤ a → Agree n ks zs zct ms cs mrt cap work
-    agreed h =
-        let ez = all n ks zs zct Z a z (g .zplace) h in
-        let eq = all n ks ms mrt M a q (g .qplace) h in
+    pub agreed : h .sizes .n ≤ a → Agree h ks t count
+    agreed end =
+        let ez = all (h .sizes .n) ks (t .zct) (h .zct) (T .zct-row) a z (g .zplace) end in
+        let eq = all (h .sizes .n) ks (t .mrt) (h .mrt) (T .mrt-row) a q (g .qplace) end in
         record {
           apart = λ i j k l. g .apart i (omega arith) j (omega arith);
           one = λ b l. g .one b (let w = l .cell in omega arith) l;
@@ -155,16 +178,17 @@ module _ (n : ℕ) (ks zs : List ℕ) (zct : ℕ) (ms cs : List ℕ) (mrt cap : 
           exact = λ j k. g .exact j (omega arith);
         }
 
-    pub lonely : a < n → (At zs zct z a → ⊥) → (At ms mrt q a → ⊥) → (((mark ks a ≡ 3 → ⊥) → getD work a 0 ≡ 1) → ⊥) → Agree n ks zs zct ms cs mrt cap work → ⊥
-    lonely h d i k A = k (λ u. A .one a (record { cell = h; used = u }) (out n ks zs zct Z a z (g .zplace) d) (out n ks ms mrt M a q (g .qplace) i))
+    pub lonely : a < h .sizes .n → (InZct a z → ⊥) → (InMrt a q → ⊥) → (((mark ks a ≡ 3 → ⊥) → count a ≡ 1) → ⊥) → Agree h ks t count → ⊥
+    lonely l d i k A =
+        k (λ u. A .one a (record { cell = l; used = u }) (out (h .sizes .n) ks (t .zct) (h .zct) (T .zct-row) a z (g .zplace) d) (out (h .sizes .n) ks (t .mrt) (h .mrt) (T .mrt-row) a q (g .qplace) i))
 
 -- tables that agree, at an address where both, or the count, say otherwise
-module _ {count : ℕ → ℕ} {n : ℕ} {ks zs : List ℕ} {zct : ℕ} {ms cs : List ℕ} {mrt cap a : ℕ} (z q : ℕ) (A : AgreeWith count n ks zs zct ms cs mrt cap) where
-  pub both : At zs zct z a → At ms mrt q a → ⊥
+module _ {h : Head} {ks : List ℕ} {t : TableRows} {count : ℕ → ℕ} {a : ℕ} (z q : ℕ) (A : Agree h ks t count) where
+  pub both : At (t .zct) (h .zct) z a → At (t .mrt) (h .mrt) q a → ⊥
   both i j = A .apart z q (i .0) (j .0) (i .1 ∙ sym (j .1))
 
-  pub busy : At zs zct z a → (count a ≡ 0 → ⊥) → ⊥
+  pub busy : At (t .zct) (h .zct) z a → (count a ≡ 0 → ⊥) → ⊥
   busy i d = d (rw (i .1) at (A .none z (i .0)))
 
-  pub wrong : At ms mrt q a → ((getD cs q 0 < cap → count a ≡ getD cs q 0) → ⊥) → ⊥
+  pub wrong : At (t .mrt) (h .mrt) q a → ((getD (t .counts) q 0 < h .sizes .cap → count a ≡ getD (t .counts) q 0) → ⊥) → ⊥
   wrong j d = d (rw (j .1) at (A .exact q (j .0)))

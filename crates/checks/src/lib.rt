@@ -4,10 +4,11 @@ ghost use Prim.Native.Nat.{ℕ, _+_, _*_, _<_, _≤_};
 ghost use lib.ListN.{length, getD, replicate};
 ghost use lib.IntN.{pos};
 ghost use Rattle.rules.specs.Head.{Says};
-ghost use Rattle.rules.specs.Sound.{mark, Live, Mark, WordAt, Words, Variable, Variables, TableRow, ZeroFrom, At, Ranged, pointsTo};
+ghost use Rattle.rules.specs.Lending.{tablesNow, tableEntries};
+ghost use Rattle.rules.specs.Sound.{mark, Live, Mark, WordAt, Words, Variable, Variables, ZeroFrom, TableRow, CountsRow, TablesSound, pointsTo, At, Agree};
 ghost use Rattle.checks.specs.CellRows.{CellRows, WordIn};
 ghost use Rattle.checks.specs.Walk.{Walked, AllMet};
-ghost use Rattle.checks.specs.Counts.{Counted, Agree, TablesReady, AllHeld, Within};
+ghost use Rattle.checks.specs.Counts.{Counted, TablesFit, tallied, AllMarked, EntriesBelow};
 use cells::address_or;
 use rules::Head;
 
@@ -230,8 +231,9 @@ pub fn compare(
     counts: &[u32],
     work: &[u32],
 ) -> bool
-    requires { ⌜ (length (now work) ≡ head .sizes .n) × TablesReady (head .sizes .n) (now kinds) (now zct) (head .zct) (now mrt) (now counts) (head .mrt) ⌝ }
-    ensures { λ r. ⌜ Says r (Agree (head .sizes .n) (now (kinds .entry)) (now (zct .entry)) (head .zct) (now (mrt .entry)) (now (counts .entry)) (head .mrt) (head .sizes .cap) (now (work .entry))) ⌝ }
+    requires { ⌜ length (now work) ≡ head .sizes .n ⌝ }
+    requires { ⌜ TablesFit head (now kinds) (tablesNow zct mrt counts) × TablesSound head (now kinds) (tablesNow zct mrt counts) ⌝ }
+    ensures { λ r. ⌜ Says r (Agree head (now (kinds .entry)) (tableEntries zct mrt counts) (tallied (now (work .entry)))) ⌝ }
 {
     let mut z = 0;
     let mut q = 0;
@@ -265,8 +267,8 @@ pub fn compare(
 // Is each of the used entries marked in the work row?
 pub fn all_held(zct: &[u32], used: usize, work: &[u32]) -> bool
     requires { ⌜ used ≤ length (now zct) ⌝ }
-    requires { ⌜ Within (now zct) used (length (now work)) ⌝ }
-    ensures { λ r. ⌜ Says r (AllHeld (now (zct .entry)) used (now (work .entry))) ⌝ }
+    requires { ⌜ EntriesBelow (now zct) used (length (now work)) ⌝ }
+    ensures { λ r. ⌜ Says r (AllMarked (now (zct .entry)) used (now (work .entry))) ⌝ }
 {
     let mut j = 0;
     while j < used {
@@ -293,25 +295,6 @@ fn ascends(row: &[u32], j: usize) -> bool
     true
 }
 
-// Is the used part ascending, and does it name cells that aren't free?
-pub fn table(kinds: &[u8], n: usize, row: &[u32], used: usize) -> bool
-    requires { ⌜ (length (now kinds) ≡ 2 * n) × ((n ≤ 1024) × (used ≤ length (now row))) ⌝ }
-    ensures { λ r. ⌜ Says r (TableRow n (now (kinds .entry)) (now (row .entry)) used) ⌝ }
-{
-    let mut j = 0;
-    while j < used {
-        let b = row[j] as usize;
-        if !live(kinds, n, b) {
-            return false;
-        }
-        if !ascends(row, j) {
-            return false;
-        }
-        j += 1;
-    }
-    true
-}
-
 // Is a row zero from a place on? Its words are gathered, and tested once.
 pub fn zero_from(row: &[u32], from: usize) -> bool
     ensures { λ r. ⌜ Says r (ZeroFrom (now (row .entry)) from) ⌝ }
@@ -328,14 +311,33 @@ pub fn zero_from(row: &[u32], from: usize) -> bool
     true
 }
 
-// Are the used counts from 2 to the cap?
-pub fn ranged(counts: &[u32], used: usize, cap: usize) -> bool
-    requires { ⌜ used ≤ length (now counts) ⌝ }
-    ensures { λ r. ⌜ Says r (Ranged (now (counts .entry)) used cap) ⌝ }
+// Is a table's row as it is to be: ascending, of cells that aren't free, zeros after the used part?
+pub fn table(kinds: &[u8], n: usize, row: &[u32], used: usize) -> bool
+    requires { ⌜ (length (now kinds) ≡ 2 * n) × ((n ≤ 1024) × (used ≤ length (now row))) ⌝ }
+    ensures { λ r. ⌜ Says r (TableRow n (now (kinds .entry)) (now (row .entry)) used) ⌝ }
 {
     let mut j = 0;
     while j < used {
-        let k = counts[j] as usize;
+        let b = row[j] as usize;
+        if !live(kinds, n, b) {
+            return false;
+        }
+        if !ascends(row, j) {
+            return false;
+        }
+        j += 1;
+    }
+    zero_from(row, used)
+}
+
+// Is the row of counts as it is to be: from 2 to the cap, zeros after the used part?
+pub fn counts(row: &[u32], used: usize, cap: usize) -> bool
+    requires { ⌜ used ≤ length (now row) ⌝ }
+    ensures { λ r. ⌜ Says r (CountsRow (now (row .entry)) used cap) ⌝ }
+{
+    let mut j = 0;
+    while j < used {
+        let k = row[j] as usize;
         if k < 2 {
             return false;
         }
@@ -344,7 +346,7 @@ pub fn ranged(counts: &[u32], used: usize, cap: usize) -> bool
         }
         j += 1;
     }
-    true
+    zero_from(row, used)
 }
 
 // Is a variable's word -1 or a cell's that isn't free?

@@ -20,7 +20,7 @@ use Rattle.rules.specs.declared.Call.the-variants.{New, Do, Settle}
 use Rattle.rules.specs.declared.Sizes.{Sizes}
 use Rattle.rules.specs.Rules.{Tables, Transaction, replay}
 use Rattle.rules.specs.Settle.{Shape, drops, holds, field, store}
-use Rattle.rules.specs.Call.{var, at, isHeld, isCell, want, check, makes, logs, write, hold, toCell, target, act, isBelow, isNought, isSigned32, given, number, callOf, andThen, callsOf, callsIn, InRange, Fits, AllFit, refuses}
+use Rattle.rules.specs.Call.{var, at, isHeld, isCell, want, makes, logs, write, hold, toCell, target, act, isBelow, isNought, isSigned32, given, number, callOf, andThen, callsOf, callsIn, InRange, Fits, AllFit, refuses}
 use Rattle.rules.specs.Head.{Limits}
 use Rattle.rules.specs.Invariant.{hit, refs, used, live, Counted, Good, Fitting, Small}
 use Rattle.rules.proofs.Exact.{gains, drop-counted, gain-counted}
@@ -111,6 +111,25 @@ act-variables (Blank v f) sh = refl
 act-variables (Follow v f w) sh = length-set (sh .variables) w (target (at sh v f))
 act-variables (Read v f) sh = refl
 act-variables (Same v w) sh = refl
+
+write-fields : (sh : Shape) (v f : ℕ) (x : Field) → length (write sh v f x .fields) ≡ length (sh .fields)
+unfolding write
+write-fields sh v f x = go (var sh v) refl
+  where
+    go : (o : Option ℕ) → var sh v ≡ o → length (write sh v f x .fields) ≡ length (sh .fields)
+    go none e = rw (e, write)
+    go (some a) e = rw (e, write) (length-store (sh .fields) a f x)
+
+pub act-fields : (d : Deed) (sh : Shape) → length (act d sh .fields) ≡ length (sh .fields)
+unfolding act hold
+act-fields (Copy v w) sh = refl
+act-fields (Clear v) sh = refl
+act-fields (Link v f w) sh = write-fields sh v f (toCell (var sh w))
+act-fields (Put v f x) sh = write-fields sh v f (Figure x)
+act-fields (Blank v f) sh = write-fields sh v f Nothing
+act-fields (Follow v f w) sh = refl
+act-fields (Read v f) sh = refl
+act-fields (Same v w) sh = refl
 
 -- ---- a shape that agrees with tables
 

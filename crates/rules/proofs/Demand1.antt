@@ -1,5 +1,5 @@
 -- Demand 1 of our heap: it refuses for the listed reasons, in their order, and for no others. Assumes nothing.
-use Prim.Native.Nat.{ℕ, suc, _*_, _-_, _≤_}
+use Prim.Native.Nat.{ℕ, suc, _*_, _≤_}
 use mathlib.Core.Path.{_≡_, refl, sym, ap, _∙_}
 use mathlib.Core.Bool.{Bool, true, false, cond}
 use mathlib.Core.Option.{Option, none, some}
@@ -200,7 +200,7 @@ module _ (s : Sizes) (r : Lent) where
       go false d e = absurd (omega arith)
 
 module _ (h : Head) (r : Lent) where
-  audit-1 : (Sized h r → ⊥) → auditOf h r ≡ leaves (outcome 1 h 0) r
+  pub audit-1 : (Sized h r → ⊥) → auditOf h r ≡ leaves (outcome 1 h 0) r
   unfolding auditOf
   audit-1 z = rw (false-sized h r z)
 

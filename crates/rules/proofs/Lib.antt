@@ -27,6 +27,7 @@ pub mod Erase
 pub mod Alike
 pub mod Figures
 pub mod Sim
+pub mod EndlessCall
 pub mod EndlessRun
 pub mod AsEndless
 pub mod Demands

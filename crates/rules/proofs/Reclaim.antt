@@ -10,16 +10,10 @@ use borrow.Author.Tests.{eqb-true, eq-eqb}
 use Rattle.rules.specs.Table.{has, Ascending}
 use Rattle.rules.specs.Settle.{Heap, holds, pick, onPick, freeCell, reclaim}
 use Rattle.rules.specs.Whole.{Kept}
-use Rattle.rules.specs.Invariant.{live, Good, Done, count}
+use Rattle.rules.specs.Invariant.{live, Good, Done}
 use Rattle.rules.proofs.Sorted.{all-has}
 use Rattle.rules.proofs.Cells.{Plain1, Figures, lives}
 use Rattle.rules.proofs.Turn.{turn-live, turn-stays, turn-less, turn-good, turn-kept, turn-plain, turn-figures}
-use lib.Dec.{eqb, ltb}
-use lib.ListN.{length, getD, set, length-set, List·getD-eq-default}
-use lib.Seq.{getD-set-same, getD-set-other}
-use borrow.Author.Tests.{eqb-true, eqb-false, eq-eqb, ltb-true, ltb-false}
-use Rattle.rules.specs.declared.Field.{Field}
-use Rattle.rules.specs.declared.Field.the-variants.{Nothing, Figure, Cell, Free}
 
 -- ---- what `pick` finds
 

@@ -1,5 +1,5 @@
 -- In a run every moment's head and rows are those of a heap at a batch's end; a batch there is refused with 2 or 3, or worked. Assumes nothing.
-use Prim.Native.Nat.{ℕ, _*_}
+use Prim.Native.Nat.{_*_}
 use mathlib.Core.Path.{_≡_, refl}
 use mathlib.Core.Bool.{Bool, true, false, cond}
 use mathlib.Core.Option.{Option, none, some}

@@ -30,6 +30,19 @@ use Rattle.rules.proofs.Reclaim.{reclaim-good, reclaim-done, reclaim-le
 use Rattle.rules.proofs.FreeList.{Taken, frees-store, frees-take, reclaim-frees}
 use Rattle.rules.proofs.Calls.{holds-set, deed-good, act-keeps, act-variables, logs-small, logs-long, store-live}
 
+-- a call needs at most two entries
+pub needs-two : (c : Call) (sh : Shape) → needs c sh ≤ 2
+needs-two (New v) sh = omega arith
+needs-two (Do d) sh = logs-long d sh
+needs-two Settle sh = omega arith
+
+-- where no settle is wanted there is room
+room-now : (s : Sizes) (c : Call) (h : Heap) → wants s c h ≡ false → full s (needs c (h .shape)) h ≡ false
+unfolding wants
+room-now s (New v) h e = not-first _ _ e
+room-now s (Do d) h e = e
+room-now s Settle h e = absurd (true≢false e)
+
 -- ---- a settle that counts any holds
 
 module _ (s : Sizes) (hs : List (Option ℕ)) (h : Heap) where
@@ -116,18 +129,6 @@ module _ (s : Sizes) (ok : Limits s) where
   pub for-inv : (c : Call) (h : Heap) → Inv s h → Inv s (settledFor s c h)
   for-inv c h g = settledIf-inv (wants s c h) h g
 
-  -- where no settle is wanted there is room
-  room-now : (c : Call) (h : Heap) → wants s c h ≡ false → full s (needs c (h .shape)) h ≡ false
-  unfolding wants
-  room-now (New v) h e = not-first _ _ e
-  room-now (Do d) h e = e
-  room-now Settle h e = absurd (true≢false e)
-
-  pub needs-two : (c : Call) (sh : Shape) → needs c sh ≤ 2
-  needs-two (New v) sh = omega arith
-  needs-two (Do d) sh = logs-long d sh
-  needs-two Settle sh = omega arith
-
   -- the log has room for a call's entries
   pub for-room : (c : Call) (h : Heap) → Inv s h → length (settledFor s c h .log) + needs c (settledFor s c h .shape) ≤ s .l
   unfolding settledIf full
@@ -138,7 +139,7 @@ module _ (s : Sizes) (ok : Limits s) where
 
       go : (b : Bool) → wants s c h ≡ b → length (settledIf b s hs h .log) + needs c (settledIf b s hs h .shape) ≤ s .l
       go true e = let l = ok .l-least in let k = needs-two c (settledBy s hs h .shape) in rw (settledBy-log s hs h) (omega arith)
-      go false e = ltb-false (s .l) (length (h .log) + needs c (h .shape)) (room-now c h e)
+      go false e = ltb-false (s .l) (length (h .log) + needs c (h .shape)) (room-now s c h e)
 
   -- before a deed that needs no entry there is no settle
   unsettled : (d : Deed) (h : Heap) → Inv s h → logs d (h .shape) ≡ [] → settledFor s (Do d) h ≡ h

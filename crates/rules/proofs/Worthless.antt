@@ -1,5 +1,5 @@
 -- Each worthless heap breaks a named fact of a demand. Assumes nothing.
-use Prim.Native.Nat.{ℕ, _-_}
+use Prim.Native.Nat.{ℕ}
 use mathlib.Core.Path.{_≡_, refl, sym, _∙_}
 use mathlib.Core.Bool.{false, false≢true}
 use mathlib.Core.Option.{some}

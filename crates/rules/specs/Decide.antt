@@ -281,12 +281,12 @@ sound? h r =
     need (dec-cells (h .sizes .n) (r .kinds) (r .values) (r .variables)) (λ s. s .cells) (λ cells.
     need (dec-tables h (r .kinds) (r .tables)) (λ s. s .tables) (λ tables.
     need (dec-frees (h .sizes .n) (r .kinds) (r .values) (h .free)) (λ s. s .free-list) (λ free-list.
-    need (dec-agree h (r .kinds) (r .tables) (pointersTo h r)) (λ s. s .agree) (λ agree.
+    need (dec-agree h (r .kinds) (r .tables) (pointersTo (h .sizes .n) (r .kinds) (r .values))) (λ s. s .agree) (λ agree.
     need (dec-held (h .sizes .n) (r .variables) (r .tables .zct) (h .zct)) (λ s. s .held) (λ held.
     need (dec-zeros (r .log) 0) (λ s. s .log-zero) (λ log-zero.
     yes (record { cells = cells; tables = tables; free-list = free-list; agree = agree; held = held; log-zero = log-zero })))))))
 
-abbrev dec-limits : (s : Sizes) → Dec (Limits s)
+abbrev pub dec-limits : (s : Sizes) → Dec (Limits s)
 dec-limits s =
     need (decLe 1 (s .n)) (λ l. l .n-least) (λ n-least.
     need (decLe (s .n) 1024) (λ l. l .n-most) (λ n-most.

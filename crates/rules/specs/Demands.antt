@@ -65,7 +65,7 @@ pub record Demand1 (H : Heaps) : Type 0 where
 
 -- a cell not at the cap has its exact number of pointers from cells: none in ZCT, the count in MRT, else one
 abbrev pub ExactBelowCap : Head → Lent → Type 0
-ExactBelowCap h r = Agree h (r .kinds) (r .tables) (pointersTo h r)
+ExactBelowCap h r = Agree h (r .kinds) (r .tables) (pointersTo (h .sizes .n) (r .kinds) (r .values))
 
 abbrev pub isNew : Call → Bool
 isNew (New v) = true

@@ -14,12 +14,16 @@ use Rattle.rules.specs.Head.{freshHead, zeroHead}
 use Rattle.rules.specs.Call.{Answer, callsIn}
 use Rattle.rules.specs.Step.{batch, fresh}
 use Rattle.rules.specs.Rows.{Lent, rowsOf, headOf, heapOf}
-use Rattle.rules.specs.Decide.{sound?, sized?}
+use Rattle.rules.specs.Decide.{dec-limits, sound?, sized?}
 
 -- the tests: `sized?` and `sound?` decide Sized and Sound by their types
 abbrev pub test : {P : Type 0} → Dec P → Bool
 test (yes p) = true
 test (no d) = false
+
+-- are the sizes within their limits?
+unfoldable pub isWithin : Sizes → Bool
+isWithin s = test (dec-limits s)
 
 unfoldable pub isSized : Head → Lent → Bool
 isSized h r = test (sized? h r)

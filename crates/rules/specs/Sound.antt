@@ -126,8 +126,8 @@ pointers n ks vs b zero = 0
 pointers n ks vs b (suc i) = cond (eqb (pointsTo n (getD ks i 0) (getD vs i (pos 0))) b) 1 0 + pointers n ks vs b i
 
 -- how many pointers from cells b has
-abbrev pub pointersTo : Head → Lent → ℕ → ℕ
-pointersTo h r b = pointers (h .sizes .n) (r .kinds) (r .values) b (2 * h .sizes .n)
+abbrev pub pointersTo : ℕ → List ℕ → List ℤ → ℕ → ℕ
+pointersTo n ks vs b = pointers n ks vs b (2 * n)
 
 -- does one of the first v variables hold b?
 abbrev pub heldAmong : ℕ → List ℤ → ℕ → ℕ → Bool
@@ -167,7 +167,7 @@ pub record Sound (h : Head) (r : Lent) : Type 0 where
   -- the free list meets every free cell once
   pub free-list : FreeList (h .sizes .n) (r .kinds) (r .values) (h .free)
   -- ZCT and MRT share no cell; a cell in neither has one pointer from cells, a ZCT cell none, an MRT cell below the cap as many as its count
-  pub agree : Agree h (r .kinds) (r .tables) (pointersTo h r)
+  pub agree : Agree h (r .kinds) (r .tables) (pointersTo (h .sizes .n) (r .kinds) (r .values))
   -- some variable holds each ZCT cell
   pub held : ZctHeld (h .sizes .n) (r .variables) (r .tables .zct) (h .zct)
   -- log is zero

@@ -10,16 +10,18 @@ use lib.ListN.{length, getD}
 use lib.IntN.{ℤ, pos}
 use borrow.Author.Tests.{eq-eqb, ne-eqb, le-leb, lt-leb, leb-false}
 use Rattle.rules.specs.Call.{callOf}
-use Rattle.rules.specs.declared.Call.{Call}
-use Rattle.rules.specs.Head.{Limits, Says, sized, freshHead}
-use Rattle.script.specs.declared.Line.{Line}
-use Rattle.script.specs.declared.Line.the-variants as L
-use Rattle.script.specs.declared.Word.the-variants.{Number, Wrong}
+use Rattle.rules.specs.Head.{Limits, Says, sized}
+use Rattle.rules.specs.Refusals.{isWithin}
+use Rattle.rules.proofs.Tests.{within-says}
 use Rattle.words.specs.Words.{isSome}
 use Rattle.script.specs.Text.{bytes, sameBytes, moreFields, fieldsOf}
 use Rattle.script.specs.Number.{numberOf, plainOf, figureOf}
-use Rattle.script.specs.Line.{wordIn, operations, operationOf, arity, wordOf, callIf, callWith, callLine, operationLine, lineOf, isFine, onNumber, heapLine, headLineOf, asWord, capped}
-use Rattle.script.proofs.Meaning.{isFine-says, with-one, with-two, with-three, with-four}
+use Rattle.script.specs.Line.{wordIn, operations, operationOf, arity, wordOf, callIf, callWith, callLine, operationLine, lineOf, onNumber, heapLine, headLineOf, asWord, capped}
+use Rattle.script.proofs.Meaning.{with-one, with-two, with-three, with-four}
+use Rattle.rules.specs.declared.Call.{Call}
+use Rattle.script.specs.declared.Line.{Line}
+use Rattle.script.specs.declared.Line.the-variants as L
+use Rattle.script.specs.declared.Word.the-variants.{Number, Wrong}
 
 -- ---- the words of an operation
 
@@ -170,24 +172,24 @@ says-same false true P h k = absurd (h .no refl (k .yes refl))
 says-same false false P h k = refl
 
 -- numbers beyond the limits
-fine-not : (n m l cap : ℕ) → (Limits (freshHead (sized n m l cap)) → ⊥) → cond (isFine n m l cap) (L.Heap n m l cap) L.Bad ≡ L.Bad
-fine-not n m l cap d = go (isFine n m l cap) refl
+fine-not : (n m l cap : ℕ) → (Limits (sized n m l cap) → ⊥) → cond (isWithin (sized n m l cap)) (L.Heap n m l cap) L.Bad ≡ L.Bad
+fine-not n m l cap d = go (isWithin (sized n m l cap)) refl
   where
-    go : (q : Bool) → isFine n m l cap ≡ q → cond q (L.Heap n m l cap) L.Bad ≡ L.Bad
-    go true e = absurd (d (isFine-says n m l cap .yes e))
+    go : (q : Bool) → isWithin (sized n m l cap) ≡ q → cond q (L.Heap n m l cap) L.Bad ≡ L.Bad
+    go true e = absurd (d (within-says (sized n m l cap) .yes e))
     go false e = refl
 
-heap-last : (n m l cap N M E C : ℕ) (r : Bool) → n ≡ N → m ≡ M → l ≡ E → cap ≡ C → Says r (Limits (freshHead (sized n m l cap))) → cond (isFine N M E C) (L.Heap N M E C) L.Bad ≡ cond r (L.Heap n m l cap) L.Bad
+heap-last : (n m l cap N M E C : ℕ) (r : Bool) → n ≡ N → m ≡ M → l ≡ E → cap ≡ C → Says r (Limits (sized n m l cap)) → cond (isWithin (sized N M E C)) (L.Heap N M E C) L.Bad ≡ cond r (L.Heap n m l cap) L.Bad
 heap-last n m l cap N M E C r en em el ec s =
-    rw (← en, ← em, ← el, ← ec, says-same (isFine n m l cap) r (Limits (freshHead (sized n m l cap))) (isFine-says n m l cap) s)
+    rw (← en, ← em, ← el, ← ec, says-same (isWithin (sized n m l cap)) r (Limits (sized n m l cap)) (within-says (sized n m l cap)) s)
 
-not-three : (n m l : ℕ) (o : Option ℕ) → ((c : ℕ) → Limits (freshHead (sized n m l c)) → ⊥) → with-three n m l o ≡ L.Bad
+not-three : (n m l : ℕ) (o : Option ℕ) → ((c : ℕ) → Limits (sized n m l c) → ⊥) → with-three n m l o ≡ L.Bad
 not-three n m l o d = on-bad o (λ c. with-four n m l c) (λ c. fine-not n m l c (d c))
 
-not-two : (n m : ℕ) (o₃ o : Option ℕ) → ((l c : ℕ) → Limits (freshHead (sized n m l c)) → ⊥) → with-two n m o₃ o ≡ L.Bad
+not-two : (n m : ℕ) (o₃ o : Option ℕ) → ((l c : ℕ) → Limits (sized n m l c) → ⊥) → with-two n m o₃ o ≡ L.Bad
 not-two n m o₃ o d = on-bad o₃ (λ l. with-three n m l o) (λ l. not-three n m l o (d l))
 
-not-one : (n : ℕ) (o₂ o₃ o : Option ℕ) → ((m l c : ℕ) → Limits (freshHead (sized n m l c)) → ⊥) → with-one n o₂ o₃ o ≡ L.Bad
+not-one : (n : ℕ) (o₂ o₃ o : Option ℕ) → ((m l c : ℕ) → Limits (sized n m l c) → ⊥) → with-one n o₂ o₃ o ≡ L.Bad
 not-one n o₂ o₃ o d = on-bad o₂ (λ m. with-two n m o₃ o) (λ m. not-two n m o₃ o (d m))
 
 four-capped : (o₁ o₂ o₃ o₄ : Option ℕ) → onNumber o₁ (λ n. with-one n o₂ o₃ o₄) ≡ with-four (capped o₁) (capped o₂) (capped o₃) (capped o₄)
@@ -200,7 +202,7 @@ four-capped o₁ o₂ o₃ o₄ =
     ∙ on-capped o₃ (λ l. with-three N M l o₄) (λ l h. not-three N M l o₄ (λ c z. let w = z .l-most in omega arith))
     ∙ on-capped o₄ (λ c. with-four N M E c) (λ c h. fine-not N M E c (λ z. let w = z .cap-most in omega arith))
 
-pub heap-says : (fs : List (List ℕ)) (n m l cap : ℕ) (r : Bool) → n ≡ capped (numberOf (getD fs 1 [])) → m ≡ capped (numberOf (getD fs 2 [])) → l ≡ capped (numberOf (getD fs 3 [])) → cap ≡ capped (numberOf (getD fs 4 [])) → Says r (Limits (freshHead (sized n m l cap))) → heapLine fs ≡ cond r (L.Heap n m l cap) L.Bad
+pub heap-says : (fs : List (List ℕ)) (n m l cap : ℕ) (r : Bool) → n ≡ capped (numberOf (getD fs 1 [])) → m ≡ capped (numberOf (getD fs 2 [])) → l ≡ capped (numberOf (getD fs 3 [])) → cap ≡ capped (numberOf (getD fs 4 [])) → Says r (Limits (sized n m l cap)) → heapLine fs ≡ cond r (L.Heap n m l cap) L.Bad
 unfolding heapLine
 heap-says fs n m l cap r en em el ec s =
     let o₁ = numberOf (getD fs 1 []) in

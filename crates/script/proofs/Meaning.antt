@@ -11,59 +11,21 @@ use lib.ListN.{length, getD}
 use lib.IntN.{ℤ, pos}
 use Rattle.rules.specs.declared.Call.{Call}
 use Rattle.rules.specs.Call.{callOf}
-use Rattle.rules.specs.Head.{Limits, Says, sized, freshHead}
-use Rattle.script.specs.declared.Line.{Line}
-use Rattle.script.specs.declared.Line.the-variants as L
+use Rattle.rules.specs.Head.{Limits, sized}
+use Rattle.rules.specs.Refusals.{isWithin}
+use Rattle.rules.proofs.Tests.{within-says}
 use Rattle.words.specs.Words.{isSome}
 use Rattle.script.specs.Text.{bytes, sameBytes, fieldsOf}
 use Rattle.script.specs.Number.{numberOf}
-use Rattle.script.specs.Line.{operationOf, arity, wordOf, callIf, callWith, callLine, operationLine, lineOf, isFine, onNumber, heapLine, headLineOf}
-
--- ---- the limits
-
-both : (p q : Bool) → (p && q) ≡ true → (p ≡ true) × (q ≡ true)
-both true true h = (refl, refl)
-both true false h = absurd (let z : _≡_ {A = ℕ} 0 1 = cc in omega arith)
-both false true h = absurd (let z : _≡_ {A = ℕ} 0 1 = cc in omega arith)
-both false false h = absurd (let z : _≡_ {A = ℕ} 0 1 = cc in omega arith)
-
--- what `isFine` tests is that the numbers are within the limits of rules
-pub isFine-says : (n m l cap : ℕ) → Says (isFine n m l cap) (Limits (freshHead (sized n m l cap)))
-unfolding isFine
-isFine-says n m l cap =
-    record {
-      yes = λ h.
-          let a = both _ _ h in
-          let b = both _ _ (a .0) in
-          let c = both _ _ (b .0) in
-          let d = both _ _ (c .0) in
-          let e = both _ _ (d .0) in
-          let f = both _ _ (e .0) in
-          let g = both _ _ (f .0) in
-          record {
-            n-least = leb-true 1 n (g .0);
-            n-most = leb-true n 1024 (g .1);
-            m-least = leb-true 1 m (f .1);
-            m-most = leb-true m 64 (e .1);
-            l-least = leb-true 2 l (d .1);
-            l-most = leb-true l 1024 (c .1);
-            cap-least = leb-true 3 cap (b .1);
-            cap-most = leb-true cap 255 (a .1);
-            free-most = zero-le;
-            zct-most = zero-le;
-            mrt-most = zero-le;
-          };
-      no = λ h L.
-          let t : isFine n m l cap ≡ true = rw (le-leb 1 n (L .n-least), le-leb n 1024 (L .n-most), le-leb 1 m (L .m-least), le-leb m 64 (L .m-most), le-leb 2 l (L .l-least), le-leb l 1024 (L .l-most), le-leb 3 cap (L .cap-least), le-leb cap 255 (L .cap-most)) in
-          let z : _≡_ {A = ℕ} 0 1 = cc (t, h) in
-          omega arith;
-    }
+use Rattle.script.specs.Line.{operationOf, arity, wordOf, callIf, callWith, callLine, operationLine, lineOf, onNumber, heapLine, headLineOf}
+use Rattle.script.specs.declared.Line.{Line}
+use Rattle.script.specs.declared.Line.the-variants as L
 
 -- ---- line 1
 
 -- a heap within the limits, or bad
 abbrev pub First : Line → Type 0
-First (L.Heap n m l cap) = Limits (freshHead (sized n m l cap))
+First (L.Heap n m l cap) = Limits (sized n m l cap)
 First (L.Call op a b c) = ⊥
 First L.Batch = ⊥
 First L.Bad = Unit {0}
@@ -78,7 +40,7 @@ first-on (some n) f h = h n
 
 -- a heap's line from its first numbers on
 abbrev pub with-four : ℕ → ℕ → ℕ → ℕ → Line
-with-four n m l c = cond (isFine n m l c) (L.Heap n m l c) L.Bad
+with-four n m l c = cond (isWithin (sized n m l c)) (L.Heap n m l c) L.Bad
 
 abbrev pub with-three : ℕ → ℕ → ℕ → Option ℕ → Line
 with-three n m l o = onNumber o (λ c. with-four n m l c)
@@ -90,10 +52,10 @@ abbrev pub with-one : ℕ → Option ℕ → Option ℕ → Option ℕ → Line
 with-one n o₂ o₃ o = onNumber o₂ (λ m. with-two n m o₃ o)
 
 first-four : (n m l cap : ℕ) → First (with-four n m l cap)
-first-four n m l cap = go (isFine n m l cap) refl
+first-four n m l cap = go (isWithin (sized n m l cap)) refl
   where
-    go : (q : Bool) → isFine n m l cap ≡ q → First (cond q (L.Heap n m l cap) L.Bad)
-    go true e = isFine-says n m l cap .yes e
+    go : (q : Bool) → isWithin (sized n m l cap) ≡ q → First (cond q (L.Heap n m l cap) L.Bad)
+    go true e = within-says (sized n m l cap) .yes e
     go false e = tt
 
 first-three : (n m l : ℕ) (o : Option ℕ) → First (with-three n m l o)

@@ -6,14 +6,16 @@ use mathlib.Core.List.{List, [], _∷_}
 use lib.Dec.{eqb, leb}
 use lib.ListN.{length, getD}
 use lib.IntN.{ℤ, pos}
-use Rattle.rules.specs.declared.Call.{Call}
+use Rattle.rules.specs.Head.{sized}
+use Rattle.rules.specs.Refusals.{isWithin}
 use Rattle.rules.specs.Call.{callOf}
+use Rattle.script.specs.Text.{bytes, sameBytes, fieldsOf}
+use Rattle.script.specs.Number.{numberOf, plainOf, figureOf}
+use Rattle.rules.specs.declared.Call.{Call}
 use Rattle.script.specs.declared.Line.{Line}
 use Rattle.script.specs.declared.Line.the-variants as L
 use Rattle.script.specs.declared.Word.{Word}
 use Rattle.script.specs.declared.Word.the-variants.{Number, Wrong}
-use Rattle.script.specs.Text.{bytes, sameBytes, fieldsOf}
-use Rattle.script.specs.Number.{numberOf, plainOf, figureOf}
 
 -- ---- operation words
 
@@ -66,10 +68,6 @@ lineOf m bs = cond (leb (length bs) 80) (operationLine m (operationOf (getD (fie
 
 -- ---- line 1
 
--- within the limits of n, m, L and cap: what rules calls `Limits` (`isFine-says` of proofs/Meaning)
-unfoldable pub isFine : ℕ → ℕ → ℕ → ℕ → Bool
-isFine n m l cap = leb 1 n && leb n 1024 && leb 1 m && leb m 64 && leb 2 l && leb l 1024 && leb 3 cap && leb cap 255
-
 -- with a number, where there is one
 abbrev pub onNumber : Option ℕ → (ℕ → Line) → Line
 onNumber none f = L.Bad
@@ -82,7 +80,7 @@ heapLine fs =
     (λ n.
     onNumber (numberOf (getD fs 2 []))
     (λ m.
-    onNumber (numberOf (getD fs 3 [])) (λ l. onNumber (numberOf (getD fs 4 [])) (λ cap. cond (isFine n m l cap) (L.Heap n m l cap) L.Bad))))
+    onNumber (numberOf (getD fs 3 [])) (λ l. onNumber (numberOf (getD fs 4 [])) (λ cap. cond (isWithin (sized n m l cap)) (L.Heap n m l cap) L.Bad))))
 
 -- line 1: heap, n, m, L, cap
 unfoldable pub headLineOf : List ℕ → Line

@@ -5,11 +5,12 @@ use mathlib.Core.List.{List, [], _∷_}
 use mathlib.Core.Option.{none, some}
 use lib.IntN.{pos, negsuc}
 use Rattle.rules.specs.Call.{callOf}
-use Rattle.script.specs.declared.Line.{Line}
-use Rattle.script.specs.declared.Line.the-variants.{Heap, Call, Batch, Bad}
+use Rattle.rules.specs.Refusals.{isWithin}
 use Rattle.script.specs.Text.{bytes, sameBytes, upTo, moreFields, fieldsOf, linesFrom, linesOf, nextLine}
 use Rattle.script.specs.Number.{digitsFrom, numberOf, figureOf}
-use Rattle.script.specs.Line.{wordIn, arity, wordOf, callWith, operationLine, lineOf, isFine, heapLine, headLineOf}
+use Rattle.script.specs.Line.{wordIn, arity, wordOf, callWith, operationLine, lineOf, heapLine, headLineOf}
+use Rattle.script.specs.declared.Line.{Line}
+use Rattle.script.specs.declared.Line.the-variants.{Heap, Call, Batch, Bad}
 
 -- ---- lines and fields
 
@@ -123,11 +124,11 @@ all-bad = refl
 -- ---- line 1
 
 most : headLineOf (bytes "heap\t1024\t64\t1024\t255") ≡ Heap 1024 64 1024 255
-unfolding headLineOf heapLine isFine sameBytes upTo moreFields numberOf digitsFrom
+unfolding headLineOf heapLine isWithin sameBytes upTo moreFields numberOf digitsFrom
 most = refl
 
 least : headLineOf (bytes "heap\t1\t1\t2\t3") ≡ Heap 1 1 2 3
-unfolding headLineOf heapLine isFine sameBytes upTo moreFields numberOf digitsFrom
+unfolding headLineOf heapLine isWithin sameBytes upTo moreFields numberOf digitsFrom
 least = refl
 
 bad-first : List (List ℕ)
@@ -136,5 +137,5 @@ bad-first =
     ∷ bytes "heap\t1\t1\t2\t256" ∷ bytes "heap\t04\t1\t2\t3" ∷ bytes "heap\t1\t1\t2" ∷ bytes "heap\t1\t1\t2\t3\t" ∷ bytes "heap\t4294967297\t1\t2\t3" ∷ bytes "heap\t18446744073709551617\t1\t2\t3" ∷ bytes "batch" ∷ bytes "new\t0" ∷ bytes "" ∷ []
 
 all-bad-first : each headLineOf bad-first ≡ each (λ x. Bad) bad-first
-unfolding bad-first each headLineOf heapLine isFine sameBytes upTo moreFields numberOf digitsFrom
+unfolding bad-first each headLineOf heapLine isWithin sameBytes upTo moreFields numberOf digitsFrom
 all-bad-first = refl

@@ -1,5 +1,4 @@
 // The reading of a tally script: its lines, the fields of a line, numbers, and what a line says.
-use rules::Head;
 use rules::Sizes;
 ghost use mathlib.Core.Path.{_≡_};
 ghost use mathlib.Core.List.{[]};
@@ -332,7 +331,7 @@ fn heap_line(line: &[u8]) -> Line
     let m = number(field(line, 2));
     let l = number(field(line, 3));
     let cap = number(field(line, 4));
-    if Head::fresh(Sizes::plain(n, m, l, cap)).within() {
+    if Sizes::plain(n, m, l, cap).within() {
         return Line::Heap(n, m, l, cap);
     }
     Line::Bad

@@ -16,12 +16,12 @@ use Rattle.rules.specs.declared.Outcome.{Outcome}
 use Rattle.rules.specs.declared.Call.the-variants.{Settle}
 use Rattle.rules.specs.declared.Sizes.{Sizes}
 use Rattle.rules.specs.Settle.{Heap, settled}
-use Rattle.rules.specs.Call.{Answer, callsOf, callsIn}
+use Rattle.rules.specs.Call.{Answer, Fits, AllFit, callsOf, callsIn}
 use Rattle.rules.specs.Step.{settledIf, step, calls}
 use Rattle.rules.specs.Rows.{Lent, lent, rowsOf}
 use Rattle.rules.specs.Refusals.{answerWords, answered, outcome}
 use Rattle.rules.proofs.Fine.{Fine}
-use Rattle.rules.proofs.Calls.{Fits, AllFit, calls-in-fit}
+use Rattle.rules.proofs.Calls.{calls-in-fit}
 use Rattle.rules.proofs.Demand1.{words-long}
 use Rattle.rules.proofs.Whole.{rows-all, head-is}
 use Rattle.cells.proofs.Storing.{cell-lengths}
@@ -104,7 +104,7 @@ at-most m ws ds e = go (leb (length ws) 1024) refl e
 pub record Progress (s : Sizes) (ds : List Call) (h : Heap) (i : ℕ) (ks : List ℕ) (xs vs : List ℤ) (zs ms cs log work : List ℕ) (as′ bs : List ℤ) (at : State) : Type 0 where
   pub heap : Heap
   pub standing : Standing s ks xs vs zs ms cs log work at heap
-  pub fit : AllFit s (drop i ds)
+  pub fit : AllFit (s .m) (drop i ds)
   pub ends : calls s ds h .heap ≡ calls s (drop i ds) heap .heap
   pub said : List Answer
   pub said-long : length said ≡ i
@@ -114,7 +114,7 @@ pub record Progress (s : Sizes) (ds : List Call) (h : Heap) (i : ℕ) (ks : List
 pub begun : {s : Sizes} (ws : List ℤ) {ks : List ℕ} {xs vs : List ℤ} {zs ms cs log work : List ℕ} {as′ : List ℤ} {at : State} (ds : List Call) (h : Heap)
     → callsIn (s .m) ws ≡ some ds → Standing s ks xs vs zs ms cs log work at h → Progress s ds h 0 ks xs vs zs ms cs log work as′ as′ at
 begun {s} ws ds h e S =
-    record { heap = h; standing = S; fit = calls-in-fit s ws ds e; ends = refl; said = []; said-long = refl; rest = refl; words = refl }
+    record { heap = h; standing = S; fit = calls-in-fit (s .m) ws ds e; ends = refl; said = []; said-long = refl; rest = refl; words = refl }
 
 append-words : (as′ bs : List Answer) → answerWords (as′ ++ bs) ≡ answerWords as′ ++ answerWords bs
 append-words [] bs = refl
@@ -140,8 +140,8 @@ module _ {s : Sizes} {ds : List Call} {h : Heap} {i : ℕ} {ks : List ℕ} {xs v
   next-is : drop i ds ≡ getD ds i Settle ∷ drop (suc i) ds
   next-is = drop-cons ds i Settle more
 
-  pub fit-now : Fits s (getD ds i Settle)
-  fit-now = (subst (AllFit s) next-is (P .fit)) .0
+  pub fit-now : Fits (s .m) (getD ds i Settle)
+  fit-now = (subst (AllFit (s .m)) next-is (P .fit)) .0
 
   pub went : {ks′ : List ℕ} {xs′ vs′ : List ℤ} {zs′ ms′ cs′ log′ work′ : List ℕ} {bs′ : List ℤ} {r : State} → 2 * length ds ≤ length as′
       → Turned s i ks′ xs′ vs′ zs′ ms′ cs′ log′ work′ bs bs′ r (step s (getD ds i Settle) (P .heap)) → Progress s ds h (suc i) ks′ xs′ vs′ zs′ ms′ cs′ log′ work′ as′ bs′ r
@@ -154,7 +154,7 @@ module _ {s : Sizes} {ds : List Call} {h : Heap} {i : ℕ} {ks : List ℕ} {xs v
       record {
         heap = o .heap;
         standing = T .standing;
-        fit = (subst (AllFit s) next-is (P .fit)) .1;
+        fit = (subst (AllFit (s .m)) next-is (P .fit)) .1;
         ends = P .ends ∙ ap (λ (l : List Call). calls s l (P .heap) .heap) next-is;
         said = P .said ++ (o .answer ∷ []);
         said-long = length-append (P .said) (o .answer ∷ []) ∙ omega arith;

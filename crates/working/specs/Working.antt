@@ -1,64 +1,37 @@
--- Where a batch stands, and a call as the code works it: checked, settled first where it wants that, then done. Assumes nothing.
-use Prim.Native.Nat.{ℕ, _+_, _-_, _*_, _≤_}
+-- Where a batch stands, and what each part of the code leaves of it. Assumes nothing.
+use Prim.Native.Nat.{ℕ, _+_, _*_, _≤_}
 use mathlib.Core.Path.{_≡_}
-use mathlib.Core.Bool.{Bool, true, _||_}
 use mathlib.Core.Option.{some}
 use mathlib.Core.List.{List}
 use lib.ListN.{length, set}
 use lib.IntN.{ℤ, pos}
 use Rattle.rules.specs.declared.Head.{Head}
 use Rattle.rules.specs.declared.Call.{Call}
-use Rattle.rules.specs.declared.Call.the-variants.{New, Copy, Clear, Link, Put, Blank, Follow, Read, Same, Settle}
 use Rattle.rules.specs.declared.Outcome.{Outcome}
 use Rattle.rules.specs.declared.Sizes.{Sizes}
 use Rattle.rules.specs.Settle.{Heap, settled}
-use Rattle.rules.specs.Call.{Answer, answer, callsIn}
-use Rattle.rules.specs.Step.{full, noneFree, calls}
+use Rattle.rules.specs.Call.{Fits, callsIn}
+use Rattle.rules.specs.Step.{calls}
 use Rattle.rules.specs.Step as rules
 use Rattle.rules.specs.Rows.{Lent, rowsOf, headOf}
 use Rattle.rules.specs.Whole.{Whole}
 use Rattle.rules.specs.Refusals.{outcome, answered}
 use Rattle.rules.specs.Invariant.{Inv}
 use Rattle.rules.proofs.Fine.{Fine}
-use Rattle.rules.proofs.Calls.{Fits}
 use Rattle.words.specs.Words.{callAt}
-use Rattle.before.specs.Seen.{needs}
 use Rattle.calls.specs.declared.Acted.{Acted}
 use Rattle.settle.specs.declared.Room.{Room}
 use Rattle.working.specs.declared.State.{State}
 use Rattle.working.specs.declared.Worked.{Worked}
 
--- is a settle made before the call? (A settle call makes its own.)
-unfoldable pub wants : Sizes → Call → Heap → Bool
-wants s (New v) h = full s 1 h || noneFree s h
-wants s (Copy v w) h = full s (needs (Copy v w) (h .shape)) h
-wants s (Clear v) h = full s (needs (Clear v) (h .shape)) h
-wants s (Link v f w) h = full s (needs (Link v f w) (h .shape)) h
-wants s (Put v f x) h = full s (needs (Put v f x) (h .shape)) h
-wants s (Blank v f) h = full s (needs (Blank v f) (h .shape)) h
-wants s (Follow v f w) h = full s (needs (Follow v f w) (h .shape)) h
-wants s (Read v f) h = full s (needs (Read v f) (h .shape)) h
-wants s (Same v w) h = full s (needs (Same v w) (h .shape)) h
-wants s Settle h = true
-
--- a settle call's value is the number k of cells that its settle freed
-unfoldable pub valued : Call → ℕ → Answer → Answer
-valued (New v) k a = a
-valued (Copy v w) k a = a
-valued (Clear v) k a = a
-valued (Link v f w) k a = a
-valued (Put v f x) k a = a
-valued (Blank v f) k a = a
-valued (Follow v f w) k a = a
-valued (Read v f) k a = a
-valued (Same v w) k a = a
-valued Settle k a = answer 0 (pos k)
-
 -- what a call leaves, from its settle and from what it did
-pub record LeftBy (c : Call) (m : Room) (a : Acted) (freed : ℕ) (r : Worked) : Type 0 where
-  pub state : r .state ≡ record { len = a .len; first = a .first; used = m .used; freed = freed + m .freed }
-  pub status : r .status ≡ a .status
-  pub value : (k : ℕ) → r .value ≡ valued c (m .freed) (answer k (a .value)) .value
+abbrev pub leftBy : Room → Acted → ℕ → Worked
+leftBy m a freed =
+    record {
+      state = record { len = a .len; first = a .first; used = m .used; freed = freed + m .freed };
+      status = a .status;
+      value = a .value;
+    }
 
 -- all rows are the heap h, which has the invariant, and so many cells were freed
 pub record Standing (s : Sizes) (ks : List ℕ) (xs vs : List ℤ) (zs ms cs log work : List ℕ) (at : State) (h : Heap) : Type 0 where
@@ -70,7 +43,7 @@ pub record Standing (s : Sizes) (ks : List ℕ) (xs vs : List ℤ) (zs ms cs log
 -- a call can be worked here
 pub record Workable (s : Sizes) (ks : List ℕ) (xs vs : List ℤ) (zs ms cs log work : List ℕ) (at : State) (c : Call) : Type 0 where
   pub fine : Fine s
-  pub fits : Fits s c
+  pub fits : Fits (s .m) c
   pub heap : Heap
   pub standing : Standing s ks xs vs zs ms cs log work at heap
   pub few : at .freed ≤ 1000000

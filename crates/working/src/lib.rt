@@ -2,17 +2,16 @@
 ghost use mathlib.Core.Path.{_≡_};
 ghost use mathlib.Core.List.{List};
 ghost use mathlib.Core.Option.{some};
-ghost use Prim.Native.Nat.{ℕ, _+_, _*_, _≤_};
+ghost use Prim.Native.Nat.{_+_, _*_, _≤_};
 ghost use lib.ListN.{length};
 ghost use Rattle.rules.specs.declared.Call.{Call};
 ghost use Rattle.rules.specs.declared.Sizes.{Sizes};
 ghost use Rattle.rules.specs.Settle.{Heap};
 ghost use Rattle.rules.specs.Call.{callsIn};
-ghost use Rattle.rules.specs.Step.{step as stepped};
+ghost use Rattle.rules.specs.Step.{needs, wants, step as stepped};
 ghost use Rattle.rules.specs.Rows.{lent};
 ghost use Rattle.words.specs.Words.{callAt};
-ghost use Rattle.before.specs.Seen.{needs};
-ghost use Rattle.working.specs.Working.{wants, valued, LeftBy, Standing, Workable, Answered, Callable, Turnable, Turned, Runnable, Ran, Endable, Finished, Batched, startOf};
+ghost use Rattle.working.specs.Working.{leftBy, Standing, Workable, Answered, Callable, Turnable, Turned, Runnable, Ran, Endable, Finished, Batched, startOf};
 use before::check;
 use before::need;
 use calls::Acted;
@@ -56,55 +55,27 @@ fn settles_first(call: Call, need: usize, n: usize, l: usize, len: usize, first:
             }
             first == n
         }
-        Call::Copy(_, _) => full,
-        Call::Clear(_) => full,
-        Call::Link(_, _, _) => full,
-        Call::Put(_, _, _) => full,
-        Call::Blank(_, _) => full,
-        Call::Follow(_, _, _) => full,
-        Call::Read(_, _) => full,
-        Call::Same(_, _) => full,
+        Call::Do(_) => full,
         Call::Settle => true,
     }
 }
 
-// A call's value: a settle call's is the number of cells that its settle freed.
-fn answer_value(call: Call, freed: usize, value: i32) -> i32
-    requires { ⌜ freed ≤ 1024 ⌝ }
-    ensures { λ r. ⌜ ((status : ℕ) → r ≡ valued call freed (record { status = status; value = value }) .value) ⌝ }
-{
-    match call {
-        Call::New(_) => value,
-        Call::Copy(_, _) => value,
-        Call::Clear(_) => value,
-        Call::Link(_, _, _) => value,
-        Call::Put(_, _, _) => value,
-        Call::Blank(_, _) => value,
-        Call::Follow(_, _, _) => value,
-        Call::Read(_, _) => value,
-        Call::Same(_, _) => value,
-        Call::Settle => value_of(freed),
-    }
-}
-
 // What a call leaves: from its settle and from what it did.
-fn left(call: Call, room: Room, acted: Acted, freed: usize) -> Worked
+fn left(room: Room, acted: Acted, freed: usize) -> Worked
     requires { ⌜ (room .freed ≤ 1024) × (freed ≤ 1000000) ⌝ }
-    ensures { λ r. ⌜ LeftBy call room acted freed r ⌝ }
+    ensures { λ r. ⌜ r ≡ leftBy room acted freed ⌝ }
 {
-    let now = room.freed;
-    let value = answer_value(call, now, acted.value);
     let used = room.used;
     let state = State {
         len: acted.len,
         first: acted.first,
         used: used,
-        freed: freed + now,
+        freed: freed + room.freed,
     };
     Worked {
         state: state,
         status: acted.status,
-        value: value,
+        value: acted.value,
     }
 }
 
@@ -157,8 +128,18 @@ fn step(
         used,
         cap,
     );
-    let acted = act(call, kinds, values, variables, log, n, room.len, room.first);
-    left(call, room, acted, freed)
+    let acted = act(
+        call,
+        kinds,
+        values,
+        variables,
+        log,
+        n,
+        room.len,
+        room.first,
+        room.freed,
+    );
+    left(room, acted, freed)
 }
 
 // The call that stands at the start of these words is worked. (A batch's words were found right before.)

@@ -1,27 +1,32 @@
-use mathlib.Core.Path.{_∙_}
-use Rattle.rules.proofs.Answers.{same}
-use Rattle.audit.proofs.Whole.{agree-pointers, pointers-agree}
+use mathlib.Core.Path.{sym}
 use borrow.Author.Needs.{needs}
+use Rattle.rules.proofs.Answers.{same}
+use Rattle.audit.proofs.Whole.{agree-as}
 use Rattle.audit.proofs.pointers_sound.Statement.{statement}
 use Rattle.audit.proofs.pointers_sound.Tie as tie
 
 clear-requires : tie.Need-clear-requires
-clear-requires c κs = tt
+clear-requires c κs = search needs
 
 count-requires : tie.Need-count-requires
-count-requires c κs = let p = c .before .before .before .before .before .before .before .before .before .before .pre in (p .0, rw (p .1 .0) at (c .before .before .before .clear .ensures))
+count-requires c κs =
+    let start : tie.Start = search needs in
+    let cleared : tie.After-clear = search needs in
+    (start .pre .0, rw (start .pre .1 .0) at (cleared .clear .ensures))
 
 compare-requires : tie.Need-compare-requires
 compare-requires c κs = search needs
 
 same-length : tie.Need-same-length
-same-length c = c .before .before .before .work2 .given ∙ c .before .before .before .before .before .before .before .work .given
+same-length c = search needs
 
 returns : tie.Need-returns
 returns c =
-    let p = c .before .before .before .before .before .before .before .before .before .before .before .before .before .before .before .pre .1 .1 in
-    let k = c .before .before .before .before .count .ensures in
-    same (agree-pointers _ _ _ _ _ _ _ _ _ _ (p .zct-row) (p .mrt-row) k) (pointers-agree _ _ _ _ _ _ _ _ _ _ (p .zct-row) (p .mrt-row) k) (c .compare .ensures)
+    let start : tie.Start = search needs in
+    let counted : tie.After-count = search needs in
+    let T = start .pre .1 .1 .1 in
+    let each = counted .count .ensures .each in
+    same (agree-as T each) (agree-as T (λ a h. sym (each a h))) (c .compare .ensures)
 
 pub pointers-sound-spec : {M : Type 1} → statement M
 pointers-sound-spec =

@@ -1,18 +1,24 @@
 use mathlib.Core.Path.{_∙_}
+use borrow.Author.Needs.{needs}
 use Rattle.audit.proofs.sound.Statement.{statement}
 use Rattle.audit.proofs.sound.Tie as tie
 
 parts-sound-requires : tie.Need-parts-sound-requires
-parts-sound-requires c κs = c .before .before .before .before .before .before .before .pre
+parts-sound-requires c κs = let start : tie.Start = search needs in start .pre
 
 clear-requires : tie.Need-clear-requires
-clear-requires c κs = tt
+clear-requires c κs = search needs
 
 same-length : tie.Need-same-length
-same-length c = c .before .work2 .given ∙ c .before .before .before .before .before .work .given
+same-length c = search needs
 
 returns : tie.Need-returns
-returns c = (c .before .before .before .before .before .before .parts-sound .ensures, rw (c .before .before .before .before .before .work .given ∙ c .before .before .before .before .before .before .before .before .before .before .before .before .before .before .pre .lengths .for-work) at (c .before .before .clear .ensures))
+returns c =
+    let cleared : tie.After-clear = search needs in
+    let back : tie.After-work = search needs in
+    let heard : tie.After-parts-sound = search needs in
+    let start : tie.Start = search needs in
+    (heard .parts-sound .ensures, rw (back .work .given ∙ start .pre .lengths .for-work) at (cleared .clear .ensures))
 
 pub sound-spec : {M : Type 1} → statement M
 sound-spec = tie.close (tie.spec parts-sound-requires clear-requires same-length returns)

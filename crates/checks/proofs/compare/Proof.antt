@@ -4,18 +4,20 @@ use borrow.Author.Needs.{needs}
 use borrow.Author.Tests.{not-true, not-false}
 use mathlib.Core.Logic.{⊎-elim}
 use Prim.Native.Nat.{_-_}
+use Rattle.rules.specs.Rows.{tableRows}
+use Rattle.checks.specs.Counts.{tallied}
 use Rattle.checks.proofs.Steps.{Gone, gone-none, turn-zct, turn-mrt, turn-one, agreed, lonely, both, busy, wrong}
 use Rattle.checks.proofs.compare.Statement.{statement}
 use Rattle.checks.proofs.compare.Tie as tie
 
 abbrev Inv-loop : tie.InvT-loop
-Inv-loop head kinds zct mrt counts work z₀ q₀ a₀ z q a = Gone (head .sizes .n) kinds zct (head .zct) mrt counts (head .mrt) (head .sizes .cap) work a z q
+Inv-loop head kinds zct mrt counts work z₀ q₀ a₀ z q a = Gone head kinds (tableRows zct mrt counts) (tallied work) a z q
 
 abbrev μ-loop : tie.MeasureT-loop
 μ-loop head kinds zct mrt counts work z₀ q₀ a₀ z q a = head .sizes .n - a
 
 loop-holds : tie.Need-loop-holds Inv-loop μ-loop
-loop-holds c = gone-none _ _ _ _ _ _ _ _ _
+loop-holds c = gone-none _ _ _ _
 
 mul-w : tie.Need-mul-w Inv-loop μ-loop
 mul-w c = omega arith
@@ -45,8 +47,13 @@ loop-less c = omega arith
 
 loop-again : tie.Need-loop-again Inv-loop μ-loop
 loop-again c =
-    let p = c .before .before .before .before .before .before .before .before .before .before .before .before .before .before .pre .1 in
-    turn-zct _ _ _ _ _ _ _ _ _ (p .zct-row) (p .mrt-row) _ _ _ (c .before .before .before .before .before .before .before .before .loop .inv) (c .before .before .before .before .before .before .if1 .taken) (c .before .before .before .before .stands .ensures .yes (c .before .before .before .if2 .taken)) (c .before .stands2 .ensures .no (c .if4 .left)) (c .before .before .if3 .left)
+    let start : tie.Start Inv-loop μ-loop = search needs in
+    let loop : tie.At-loop Inv-loop μ-loop = search needs in
+    let below : tie.Then1 Inv-loop μ-loop = search needs in
+    let in-zct : tie.Then2 Inv-loop μ-loop = search needs in
+    let none : tie.Else3 Inv-loop μ-loop = search needs in
+    let apart : tie.After-stands2 Inv-loop μ-loop = search needs in
+    turn-zct _ _ _ _ (start .pre .1 .1) _ _ _ (loop .loop .inv) (below .if1 .taken) (in-zct .before .stands .ensures .yes (in-zct .if2 .taken)) (apart .stands2 .ensures .no (c .if4 .left)) (none .if3 .left)
 
 stands-requires-3 : tie.Need-stands-requires-3 Inv-loop μ-loop
 stands-requires-3 c κs = search needs
@@ -74,16 +81,27 @@ loop-less-2 c = omega arith
 
 loop-again-2 : tie.Need-loop-again-2 Inv-loop μ-loop
 loop-again-2 c =
-    let p = c .before .before .before .before .before .before .before .before .before .before .before .before .before .before .before .before .pre .1 in
-    turn-mrt _ _ _ _ _ _ _ _ _ (p .zct-row) (p .mrt-row) _ _ _ (c .before .before .before .before .before .before .before .before .before .before .loop .inv) (c .before .before .before .before .before .before .before .before .if1 .taken) (c .before .before .before .before .before .before .stands .ensures .no (c .before .before .before .before .before .if2 .left)) (c .before .before .before .before .stands3 .ensures .yes (c .before .before .before .if5 .taken)) (c .before .exact .ensures .yes (not-false _ (c .if6 .left)))
+    let start : tie.Start Inv-loop μ-loop = search needs in
+    let loop : tie.At-loop Inv-loop μ-loop = search needs in
+    let below : tie.Then1 Inv-loop μ-loop = search needs in
+    let not-zct : tie.Else2 Inv-loop μ-loop = search needs in
+    let in-mrt : tie.Then5 Inv-loop μ-loop = search needs in
+    turn-mrt _ _ _ _ (start .pre .1 .1) _ _ _ (loop .loop .inv) (below .if1 .taken) (not-zct .before .stands .ensures .no (not-zct .if2 .left)) (in-mrt .before .stands3 .ensures .yes (in-mrt .if5 .taken))
+    (c .before .exact .ensures .yes (not-false _ (c .if6 .left)))
 
 single-requires : tie.Need-single-requires Inv-loop μ-loop
 single-requires c κs = search needs
 
 returns-3 : tie.Need-returns-3 Inv-loop μ-loop
 returns-3 c =
-    let p = c .before .before .before .before .before .before .before .before .before .before .before .before .before .before .before .pre .1 in
-    isn't (λ A. lonely _ _ _ _ _ _ _ _ _ (p .zct-row) (p .mrt-row) _ _ _ (c .before .before .before .before .before .before .before .before .before .loop .inv) (c .before .before .before .before .before .before .before .if1 .taken) (c .before .before .before .before .before .stands .ensures .no (c .before .before .before .before .if2 .left)) (c .before .before .before .stands3 .ensures .no (c .before .before .if5 .left)) (c .before .single .ensures .no (not-true _ (c .if7 .taken))) A)
+    let start : tie.Start Inv-loop μ-loop = search needs in
+    let loop : tie.At-loop Inv-loop μ-loop = search needs in
+    let below : tie.Then1 Inv-loop μ-loop = search needs in
+    let not-zct : tie.Else2 Inv-loop μ-loop = search needs in
+    let not-mrt : tie.Else5 Inv-loop μ-loop = search needs in
+    isn't
+    (lonely _ _ _ _ (start .pre .1 .1) _ _ _ (loop .loop .inv) (below .if1 .taken) (not-zct .before .stands .ensures .no (not-zct .if2 .left)) (not-mrt .before .stands3 .ensures .no (not-mrt .if5 .left))
+    (c .before .single .ensures .no (not-true _ (c .if7 .taken))))
 
 add-a-3 : tie.Need-add-a-3 Inv-loop μ-loop
 add-a-3 c = omega arith
@@ -93,13 +111,19 @@ loop-less-3 c = omega arith
 
 loop-again-3 : tie.Need-loop-again-3 Inv-loop μ-loop
 loop-again-3 c =
-    let p = c .before .before .before .before .before .before .before .before .before .before .before .before .before .before .before .pre .1 in
-    turn-one _ _ _ _ _ _ _ _ _ (p .zct-row) (p .mrt-row) _ _ _ (c .before .before .before .before .before .before .before .before .before .loop .inv) (c .before .before .before .before .before .before .before .if1 .taken) (c .before .before .before .before .before .stands .ensures .no (c .before .before .before .before .if2 .left)) (c .before .before .before .stands3 .ensures .no (c .before .before .if5 .left)) (c .before .single .ensures .yes (not-false _ (c .if7 .left)))
+    let start : tie.Start Inv-loop μ-loop = search needs in
+    let loop : tie.At-loop Inv-loop μ-loop = search needs in
+    let below : tie.Then1 Inv-loop μ-loop = search needs in
+    let not-zct : tie.Else2 Inv-loop μ-loop = search needs in
+    let not-mrt : tie.Else5 Inv-loop μ-loop = search needs in
+    turn-one _ _ _ _ (start .pre .1 .1) _ _ _ (loop .loop .inv) (below .if1 .taken) (not-zct .before .stands .ensures .no (not-zct .if2 .left)) (not-mrt .before .stands3 .ensures .no (not-mrt .if5 .left))
+    (c .before .single .ensures .yes (not-false _ (c .if7 .left)))
 
 returns-4 : tie.Need-returns-4 Inv-loop μ-loop
 returns-4 c =
-    let p = c .before .before .before .before .before .before .before .before .pre .1 in
-    is (agreed _ _ _ _ _ _ _ _ _ (p .zct-row) (p .mrt-row) _ _ _ (c .before .before .loop .inv) (c .if1 .left))
+    let start : tie.Start Inv-loop μ-loop = search needs in
+    let loop : tie.At-loop Inv-loop μ-loop = search needs in
+    is (agreed _ _ _ _ (start .pre .1 .1) _ _ _ (loop .loop .inv) (c .if1 .left))
 
 pub compare-spec : {M : Type 1} → statement M
 compare-spec =

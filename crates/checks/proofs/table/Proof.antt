@@ -1,4 +1,4 @@
-use Rattle.rules.proofs.Answers.{is, isn't}
+use Rattle.rules.proofs.Answers.{isn't, same}
 use Rattle.rules.specs.Sound.{Live}
 use native.Mathlib.Omega.{arith}
 use borrow.Author.Needs.{needs}
@@ -51,10 +51,13 @@ loop-again c =
     let v = c .before .before .before .before .before .before .loop .inv in
     (omega arith, (below-more _ _ (v .1 .0) (c .before .before .before .live .ensures .yes (not-false _ (c .before .before .if1 .left))), below-more _ _ (v .1 .1) (c .before .ascends .ensures .yes (not-false _ (c .if2 .left)))))
 
+zero-from-requires : tie.Need-zero-from-requires Inv-loop μ-loop
+zero-from-requires c κs = tt
+
 returns-3 : tie.Need-returns-3 Inv-loop μ-loop
 returns-3 c =
-    let v = c .before .loop .inv in
-    is (record { ascending = λ j h. v .1 .1 (j + 1) (omega arith) j refl; live = λ j h. v .1 .0 j (omega arith) })
+    let v = c .before .before .loop .inv in
+    same (λ z. record { ascending = λ j h. v .1 .1 (j + 1) (omega arith) j refl; live = λ j h. v .1 .0 j (omega arith); zeros = z }) (λ t. t .zeros) (c .zero-from .ensures)
 
 pub table-spec : {M : Type 1} → statement M
 table-spec =
@@ -73,4 +76,5 @@ table-spec =
     add-j
     loop-less
     loop-again
+    zero-from-requires
     returns-3)

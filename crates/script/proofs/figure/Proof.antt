@@ -7,9 +7,9 @@ use lib.IntN.{negsuc}
 use Rattle.script.specs.declared.Word.the-variants.{Number}
 use Rattle.script.specs.Number.{numberOf}
 use Rattle.script.specs.Line.{asWord, capped}
-use mathlib.Core.List.{List}
 use Rattle.script.proofs.TextLaws.{rest-part}
 use Rattle.script.proofs.NumberLaws.{minus-zero, minus-much, minus-some, figure-none, figure-plain, figure-minus, minus-fits, minus-is}
+use mathlib.Core.List.{List}
 use Rattle.script.proofs.figure.Statement.{statement}
 use Rattle.script.proofs.figure.Tie as tie
 

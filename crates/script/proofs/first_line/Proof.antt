@@ -3,9 +3,9 @@ use native.Mathlib.Omega.{arith}
 use Prim.Native.Nat.{ℕ}
 use mathlib.Core.Path.{sym, ap, _∙_}
 use Rattle.script.proofs.LineLaws.{head-long, head-other, head-word}
+use Rattle.script.specs.Text.{bytes, sameBytes}
 use mathlib.Core.Bool.{true, false}
 use mathlib.Core.List.{List}
-use Rattle.script.specs.Text.{bytes, sameBytes}
 use Rattle.script.proofs.first_line.Statement.{statement}
 use Rattle.script.proofs.first_line.Tie as tie
 

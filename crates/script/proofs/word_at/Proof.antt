@@ -4,9 +4,9 @@ use Prim.Native.Nat.{ℕ}
 use mathlib.Core.Path.{sym, ap, _∙_}
 use Rattle.script.specs.Number.{plainOf, figureOf}
 use Rattle.script.specs.Line.{asWord}
-use mathlib.Core.List.{List}
 use Rattle.script.specs.Text.{fieldsOf}
 use Rattle.script.proofs.LineLaws.{word-nought, word-plain, word-plain-2, word-figure}
+use mathlib.Core.List.{List}
 use Rattle.script.proofs.word_at.Statement.{statement}
 use Rattle.script.proofs.word_at.Tie as tie
 

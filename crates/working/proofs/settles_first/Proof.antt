@@ -19,27 +19,6 @@ enum-told-2 c = search needs
 enum-told-3 : tie.Need-enum-told-3
 enum-told-3 c = search needs
 
-enum-told-4 : tie.Need-enum-told-4
-enum-told-4 c = search needs
-
-enum-told-5 : tie.Need-enum-told-5
-enum-told-5 c = search needs
-
-enum-told-6 : tie.Need-enum-told-6
-enum-told-6 c = search needs
-
-enum-told-7 : tie.Need-enum-told-7
-enum-told-7 c = search needs
-
-enum-told-8 : tie.Need-enum-told-8
-enum-told-8 c = search needs
-
-enum-told-9 : tie.Need-enum-told-9
-enum-told-9 c = search needs
-
-enum-told-10 : tie.Need-enum-told-10
-enum-told-10 c = search needs
-
 returns-2 : tie.Need-returns-2
 returns-2 c = λ s h a b f g j. settles-as s h _ _ _ _ _ _ _ _ (c .before .enum-told .given .1) a b f g j (rw (c .if1 .left))
 
@@ -49,50 +28,7 @@ returns-3 c = λ s h a b f g j. settles-as s h _ _ _ _ _ _ _ _ (c .enum-told2 .g
 returns-4 : tie.Need-returns-4
 returns-4 c = λ s h a b f g j. settles-as s h _ _ _ _ _ _ _ _ (c .enum-told3 .given .1) a b f g j refl
 
-returns-5 : tie.Need-returns-5
-returns-5 c = λ s h a b f g j. settles-as s h _ _ _ _ _ _ _ _ (c .enum-told4 .given .1) a b f g j refl
-
-returns-6 : tie.Need-returns-6
-returns-6 c = λ s h a b f g j. settles-as s h _ _ _ _ _ _ _ _ (c .enum-told5 .given .1) a b f g j refl
-
-returns-7 : tie.Need-returns-7
-returns-7 c = λ s h a b f g j. settles-as s h _ _ _ _ _ _ _ _ (c .enum-told6 .given .1) a b f g j refl
-
-returns-8 : tie.Need-returns-8
-returns-8 c = λ s h a b f g j. settles-as s h _ _ _ _ _ _ _ _ (c .enum-told7 .given .1) a b f g j refl
-
-returns-9 : tie.Need-returns-9
-returns-9 c = λ s h a b f g j. settles-as s h _ _ _ _ _ _ _ _ (c .enum-told8 .given .1) a b f g j refl
-
-returns-10 : tie.Need-returns-10
-returns-10 c = λ s h a b f g j. settles-as s h _ _ _ _ _ _ _ _ (c .enum-told9 .given .1) a b f g j refl
-
-returns-11 : tie.Need-returns-11
-returns-11 c = λ s h a b f g j. settles-as s h _ _ _ _ _ _ _ _ (c .enum-told10 .given .1) a b f g j refl
-
 pub settles-first-spec : {M : Type 1} → statement M
 settles-first-spec =
     tie.close
-    (tie.spec
-    add-full
-    enum-told
-    returns
-    enum-told-2
-    enum-told-3
-    enum-told-4
-    enum-told-5
-    enum-told-6
-    enum-told-7
-    enum-told-8
-    enum-told-9
-    enum-told-10
-    returns-2
-    returns-3
-    returns-4
-    returns-5
-    returns-6
-    returns-7
-    returns-8
-    returns-9
-    returns-10
-    returns-11)
+    (tie.spec add-full enum-told returns enum-told-2 enum-told-3 returns-2 returns-3 returns-4)

@@ -1,6 +1,7 @@
 use mathlib.Core.Path.{refl, _∙_}
 use native.Mathlib.Omega.{arith}
-use Rattle.working.proofs.Steps.{reaches, shown, refused-as, few, needs-two, able-now, few-both, worked-as}
+use Rattle.working.proofs.Steps.{reaches, shown, refused-as, few, able-now, few-both, worked-as}
+use Rattle.rules.proofs.Step.{needs-two}
 use Rattle.settle.proofs.Settling.{settleable}
 use borrow.Author.Needs.{needs}
 use Rattle.working.proofs.step.Statement.{statement}
@@ -25,7 +26,10 @@ need-requires : tie.Need-need-requires
 need-requires c κs = let W = c .before .before .before .before .before .before .before .before .before .before .before .before .before .before .before .pre in reaches _ (W .fits) (W .standing)
 
 settles-first-requires : tie.Need-settles-first-requires
-settles-first-requires c κs = let W = c .before .before .before .before .before .before .before .before .before .before .before .before .before .before .before .before .pre in (rw (c .need .ensures _ (shown (W .standing))) (needs-two _ _), few (W .fine) (W .standing) .0)
+settles-first-requires c κs =
+    let s : tie.Start = search needs in
+    let W = s .pre in
+    (rw (c .need .ensures _ (shown (W .standing))) (needs-two (s .args .call) (W .heap .shape)), few (W .fine) (W .standing) .0)
 
 cast-cap : tie.Need-cast-cap
 cast-cap c = search needs

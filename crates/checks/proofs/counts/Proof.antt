@@ -1,16 +1,16 @@
-use Rattle.rules.proofs.Answers.{is, isn't}
+use Rattle.rules.proofs.Answers.{isn't, same}
 use native.Mathlib.Omega.{arith}
 use borrow.Author.Count.{below-more}
 use Prim.Native.Nat.{ℕ, _≤_, _-_, _<_}
 use lib.ListN.{getD}
-use Rattle.checks.proofs.ranged.Statement.{statement}
-use Rattle.checks.proofs.ranged.Tie as tie
+use Rattle.checks.proofs.counts.Statement.{statement}
+use Rattle.checks.proofs.counts.Tie as tie
 
 abbrev Inv-loop : tie.InvT-loop
-Inv-loop counts used cap j₀ j = (j ≤ used) × ((k : ℕ) → k < j → (2 ≤ getD counts k 0) × (getD counts k 0 ≤ cap))
+Inv-loop row used cap j₀ j = (j ≤ used) × ((k : ℕ) → k < j → (2 ≤ getD row k 0) × (getD row k 0 ≤ cap))
 
 abbrev μ-loop : tie.MeasureT-loop
-μ-loop counts used cap j₀ j = used - j
+μ-loop row used cap j₀ j = used - j
 
 loop-holds : tie.Need-loop-holds Inv-loop μ-loop
 loop-holds c = (omega arith, λ k h. absurd (omega arith))
@@ -22,13 +22,13 @@ shared-slice-read-k : tie.Need-shared-slice-read-k Inv-loop μ-loop
 shared-slice-read-k c = omega arith
 
 cast-k : tie.Need-cast-k Inv-loop μ-loop
-cast-k c = omega (arith, c .shared-slice-known .given (c .before .before .loop .j))
+cast-k c = omega (arith, c .shared-slice-known2 .given (c .before .before .loop .j))
 
 returns : tie.Need-returns Inv-loop μ-loop
-returns c = isn't (λ z. let w = z _ (c .before .before .loop-test .taken) in omega arith)
+returns c = isn't (λ z. let w = z .ranged _ (c .before .before .loop-test .taken) in omega arith)
 
 returns-2 : tie.Need-returns-2 Inv-loop μ-loop
-returns-2 c = isn't (λ z. let w = z _ (c .before .before .before .loop-test .taken) in omega arith)
+returns-2 c = isn't (λ z. let w = z .ranged _ (c .before .before .before .loop-test .taken) in omega arith)
 
 add-j : tie.Need-add-j Inv-loop μ-loop
 add-j c = omega arith
@@ -39,11 +39,14 @@ loop-less c = omega arith
 loop-again : tie.Need-loop-again Inv-loop μ-loop
 loop-again c = (omega arith, below-more _ _ (c .before .before .before .before .loop .inv .1) (omega arith, omega arith))
 
-returns-3 : tie.Need-returns-3 Inv-loop μ-loop
-returns-3 c = is (λ k h. c .before .loop .inv .1 k (omega arith))
+zero-from-requires : tie.Need-zero-from-requires Inv-loop μ-loop
+zero-from-requires c κs = tt
 
-pub ranged-spec : {M : Type 1} → statement M
-ranged-spec =
+returns-3 : tie.Need-returns-3 Inv-loop μ-loop
+returns-3 c = same (λ z. record { ranged = λ k h. c .before .before .loop .inv .1 k (omega arith); zeros = z }) (λ t. t .zeros) (c .zero-from .ensures)
+
+pub counts-spec : {M : Type 1} → statement M
+counts-spec =
     tie.close
     (tie.spec
     Inv-loop
@@ -57,4 +60,5 @@ ranged-spec =
     add-j
     loop-less
     loop-again
+    zero-from-requires
     returns-3)
