@@ -3,7 +3,7 @@ use mathlib.Core.Path.{_≡_, refl, sym, ap, _∙_}
 use mathlib.Core.Bool.{Bool, true, false, cond}
 use mathlib.Core.Option.{Option, none, some}
 use mathlib.Core.List.{List, [], _∷_, _++_, append-assoc}
-use Prim.Native.Nat.{ℕ, zero, suc, _+_, _*_, _≤_, _<_}
+use Prim.Native.Nat.{ℕ, _+_, _*_, _≤_, _<_}
 use native.Mathlib.Omega.{arith}
 use lib.Dec.{ltb}
 use borrow.Author.Tests.{lt-ltb, le-ltb, ltb-true, eq-eqb, ne-eqb}
@@ -11,39 +11,32 @@ use lib.IntN.{ℤ, pos}
 use lib.ListN.{length, getD, set}
 use Rattle.rules.specs.declared.Field.{Field}
 use Rattle.rules.specs.declared.Field.the-variants.{Nothing, Figure, Cell, Free}
-use Rattle.rules.specs.declared.Used.{Used}
+use Rattle.rules.specs.declared.State.{State}
 use Rattle.rules.specs.declared.Sizes.{Sizes}
 use Rattle.rules.specs.Field.{addressOf, variableOf, fieldOf, kindOf, valueOf}
 use Rattle.rules.specs.Rules.{Transaction}
 use Rattle.rules.specs.Settle.{Shape, Heap, place, field, drops}
 use Rattle.rules.specs.Call.{var, at, isHeld, want, write, hold, toCell, target, makes, sameCell}
 use Rattle.rules.specs.Step.{noneFree, doNew, takeCell}
+use Rattle.rules.specs.Rows.{CallRows, Lent}
 use Rattle.rules.specs.Whole.{Inside, Cells, Logged, Whole}
 use Rattle.cells.specs.Leaves.{heldAs}
 use Rattle.cells.specs.Log.{transaction}
 use Rattle.cells.specs.Free.{Taken}
-use Rattle.cells.proofs.Storing.{map-set, inside-more, cell-lengths, read-inside, stored-at}
-use Rattle.calls.specs.declared.Acted.{Acted}
+use Rattle.rules.proofs.Lists.{map-set, set-each}
+use Rattle.cells.proofs.Storing.{inside-more, cell-lengths, read-inside, stored-at}
 use Rattle.before.specs.Seen.{Held, Shown}
-use Rattle.calls.specs.Doing.{Did, Plain, Wrote, Writable}
+use Rattle.calls.specs.Doing.{worked, Did, Does, Wrote, Writes, Writable}
 use Rattle.before.proofs.Seeing.{held-is, held-some, held-none, held-test, at-some}
 
 -- ---- a variable
-
-inside-set : (n : ℕ) (hs : List (Option ℕ)) (v : ℕ) (o : Option ℕ) → ((a : ℕ) → o ≡ some a → a < n) → ((w a : ℕ) → getD hs w none ≡ some a → a < n)
-    → (w a : ℕ) → getD (set hs v o) w none ≡ some a → a < n
-inside-set n [] v o I A w a e = A w a e
-inside-set n (x ∷ hs) zero o I A zero a e = I a e
-inside-set n (x ∷ hs) zero o I A (suc w) a e = A (suc w) a e
-inside-set n (x ∷ hs) (suc v) o I A zero a e = A zero a e
-inside-set n (x ∷ hs) (suc v) o I A (suc w) a e = inside-set n hs v o I (λ k. A (suc k)) w a e
 
 pub held-set : {n : ℕ} {vs vs′ : List ℤ} {hs : List (Option ℕ)} (v : ℕ) (o : Option ℕ) → Held n vs hs → ((a : ℕ) → o ≡ some a → a < n)
     → vs′ ≡ set vs v (variableOf o) → Held n vs′ (set hs v o)
 held-set {n} {hs = hs} v o H I e =
     record {
       are = e ∙ rw (H .are) (sym (map-set variableOf v o hs));
-      inside = inside-set n hs v o I (H .inside);
+      inside = λ w. set-each (λ q. (a : ℕ) → q ≡ some a → a < n) hs v w o none I (H .inside w);
     }
 
 pub copied : {n : ℕ} {vs vs′ : List ℤ} {hs : List (Option ℕ)} (v w r : ℕ) → w < length vs → Held n vs hs
@@ -92,12 +85,12 @@ pub holder : {n : ℕ} {vs : List ℤ} {hs : List (Option ℕ)} (v : ℕ) {a : �
     → want (isHeld (getD hs v none)) 11 ≡ 0 → a < n
 holder {n} {hs = hs} v {a} H l e h = ltb-true a n (held-test H v l e ∙ held-true (getD hs v none) h)
 
-module _ {n : ℕ} {ks : List ℕ} {xs vs : List ℤ} {log : List ℕ} {len v f a : ℕ} {x : Field} (W : Writable n ks xs vs log len v f x) (e : a ≡ addressOf n (getD vs v (pos 0))) where
+module _ {n v f a len : ℕ} {x : Field} {r : CallRows} (W : Writable n v f x r len) (e : a ≡ addressOf n (getD (r .variables) v (pos 0))) where
   pub near : a < n
   unfolding var
   near = holder v (W .shown .held) (W .v-below) e (W .holding)
 
-  pub write-place : (2 * a + f < length ks) × ((2 * a + f < length xs) × (a < 1024))
+  pub write-place : (2 * a + f < length (r .kinds)) × ((2 * a + f < length (r .values)) × (a < 1024))
   write-place =
       let l = cell-lengths (W .shown .cells) in
       let p = l .0 in
@@ -107,38 +100,38 @@ module _ {n : ℕ} {ks : List ℕ} {xs vs : List ℤ} {log : List ℕ} {len v f 
       let b = W .f-below in
       (omega arith, (omega arith, omega arith))
 
-  pub write-old : (old : Field) → old ≡ fieldOf (getD ks (2 * a + f) 0) (getD xs (2 * a + f) (pos 0)) → (2 * (len + length (drops old)) ≤ length log) × Inside 1024 old
+  pub write-old : (old : Field) → old ≡ fieldOf (getD (r .kinds) (2 * a + f) 0) (getD (r .values) (2 * a + f) (pos 0)) → (2 * (len + length (drops old)) ≤ length (r .log)) × Inside 1024 old
   write-old old q =
       (rw (at-some (W .shown) v f (W .v-below) e near q) (W .room), inside-more old (W .most) (read-inside (W .shown .cells) old (2 * a + f) q))
 
-pub wrote : {n : ℕ} {ks ks′ : List ℕ} {xs xs′ vs : List ℤ} {log log′ : List ℕ} {len r : ℕ} {s : Shape} {ts : List Transaction} (v f a : ℕ) (x old : Field)
-    → Shown n ks xs vs s → Logged n log len ts → v < length vs → a ≡ addressOf n (getD vs v (pos 0)) → a < n → Inside n x
-    → old ≡ fieldOf (getD ks (2 * a + f) 0) (getD xs (2 * a + f) (pos 0)) → ks′ ≡ set ks (2 * a + f) (kindOf x) → xs′ ≡ set xs (2 * a + f) (valueOf x)
-    → ((n : ℕ) (ts : List Transaction) → Logged n log len ts → Inside n old → Logged n log′ r (ts ++ drops old))
-    → Wrote n ks′ xs′ vs log′ r (write s v f x) (ts ++ drops (at s v f))
-unfolding write var
-wrote {n} {s = s} {ts = ts} v f a x old S L l e h I q ek ex more =
-    record {
-      shown =
-          record {
-            cells = rw (held-some (S .held) v l e h, write, var) (stored-at a f x (S .cells) I ek ex);
-            held = S .held;
-          };
-      logged = rw (← at-some S v f l e h q) (more n ts L (read-inside (S .cells) old (2 * a + f) q));
-    }
+  -- from what the parts of the writing say
+  pub wrote : {ks : List ℕ} {xs : List ℤ} {log : List ℕ} {len′ : ℕ} (old : Field)
+      → old ≡ fieldOf (getD (r .kinds) (2 * a + f) 0) (getD (r .values) (2 * a + f) (pos 0)) → ks ≡ set (r .kinds) (2 * a + f) (kindOf x) → xs ≡ set (r .values) (2 * a + f) (valueOf x)
+      → ((n : ℕ) (ts : List Transaction) → Logged n (r .log) len ts → Inside n old → Logged n log len′ (ts ++ drops old))
+      → Writes n v f x r len (record { kinds = ks; values = xs; variables = r .variables; log = log }) len′
+  unfolding write var
+  wrote old q ek ex more s ts S L =
+      record {
+        shown =
+            record {
+              cells = rw (held-some (S .held) v (W .v-below) e near, write, var) (stored-at a f x (S .cells) (W .inside) ek ex);
+              held = S .held;
+            };
+        logged = rw (← at-some S v f (W .v-below) e near q) (more n ts L (read-inside (S .cells) old (2 * a + f) q));
+      }
 
 -- the cell that w holds is w's
-pub linked-as : {n : ℕ} {ks : List ℕ} {xs vs : List ℤ} {log : List ℕ} {r : ℕ} (s : Shape) (us : List Transaction) (v f w b : ℕ)
-    → Held n vs (s .variables) → w < length vs → b ≡ addressOf n (getD vs w (pos 0)) → b < n
-    → Wrote n ks xs vs log r (write s v f (Cell b)) us → Wrote n ks xs vs log r (write s v f (toCell (var s w))) us
+pub linked-as : {n len : ℕ} {r : CallRows} (s : Shape) (us : List Transaction) (v f w b : ℕ)
+    → Held n (r .variables) (s .variables) → w < length (r .variables) → b ≡ addressOf n (getD (r .variables) w (pos 0)) → b < n
+    → Wrote n r len (write s v f (Cell b)) us → Wrote n r len (write s v f (toCell (var s w))) us
 unfolding var
 linked-as s us v f w b H l e h W = record { shown = rw (held-some H w l e h) (W .shown); logged = W .logged }
 
-pub linked : {n : ℕ} {ks : List ℕ} {xs vs : List ℤ} {log log′ : List ℕ} {l r : ℕ} (s : Shape) (ts : List Transaction) (v f w b : ℕ)
-    → Held n vs (s .variables) → w < length vs → b ≡ addressOf n (getD vs w (pos 0)) → b < n
-    → Wrote n ks xs vs log l (write s v f (Cell b)) (ts ++ drops (at s v f))
-    → ((n : ℕ) (us : List Transaction) → Logged n log l us → b < n → Logged n log′ r (us ++ (transaction 2 b ∷ [])))
-    → Wrote n ks xs vs log′ r (write s v f (toCell (var s w))) (ts ++ (drops (at s v f) ++ makes (var s w)))
+pub linked : {n len len′ : ℕ} {r : CallRows} {log : List ℕ} (s : Shape) (ts : List Transaction) (v f w b : ℕ)
+    → Held n (r .variables) (s .variables) → w < length (r .variables) → b ≡ addressOf n (getD (r .variables) w (pos 0)) → b < n
+    → Wrote n r len (write s v f (Cell b)) (ts ++ drops (at s v f))
+    → ((n : ℕ) (us : List Transaction) → Logged n (r .log) len us → b < n → Logged n log len′ (us ++ (transaction 2 b ∷ [])))
+    → Wrote n (record { kinds = r .kinds; values = r .values; variables = r .variables; log = log }) len′ (write s v f (toCell (var s w))) (ts ++ (drops (at s v f) ++ makes (var s w)))
 unfolding var transaction
 linked {n} s ts v f w b H l e h W more =
     linked-as s _ v f w b H l e h
@@ -176,49 +169,50 @@ module _ {n : ℕ} {vs : List ℤ} {hs : List (Option ℕ)} (v w : ℕ) {a b : �
 
 -- ---- the first free cell
 
-pub none-free : {n cap : ℕ} {ks : List ℕ} {xs vs : List ℤ} {zs ms cs log work : List ℕ} {len first : ℕ} {u : Used} {h : Heap} (s : Sizes) (v : ℕ) (r : Acted)
-    → s .n ≡ n → first ≡ n → Whole n cap ks xs vs zs ms cs log work len first u h → r .len ≡ len → r .first ≡ first → r .status ≡ 14 → r .value ≡ pos 0
-    → Did n cap ks xs vs zs ms cs log work u r (doNew (noneFree s h) v h)
+pub none-free : {s : Sizes} {r : Lent} {st : State} {h : Heap} (v : ℕ) → st .first ≡ s .n → Whole s r st h → Did s r (doNew (noneFree s h) v h) (record { state = st; status = 14; value = pos 0 })
 unfolding doNew noneFree
-none-free {h = h} s v r en ef W a b c d =
+none-free {s} {h = h} v e W =
     let q : h .first ≡ s .n = cc (W .rows .first) in
     rw (eq-eqb (h .first) (s .n) q)
-    (record { whole = rw (a, b) W; status = c; value = d })
+    (record { whole = W; status = refl; value = refl })
 
-pub took : {n cap : ℕ} {ks ks′ : List ℕ} {xs xs′ vs vs′ : List ℤ} {zs ms cs log log′ work : List ℕ} {len l first next : ℕ} {u : Used} {h : Heap} (s : Sizes) (v : ℕ) (r : Acted)
-    → s .n ≡ n → (first ≡ n → ⊥) → Whole n cap ks xs vs zs ms cs log work len first u h
-    → ((n : ℕ) (fs : List Field) → Cells n ks xs fs → Taken n ks′ xs′ first next fs) → vs′ ≡ set vs v (variableOf (heldAs n first))
-    → ((n : ℕ) (ts : List Transaction) → Logged n log len ts → first < n → Logged n log′ l (ts ++ (transaction 1 first ∷ [])))
-    → Plain l next (pos 0) r → Did n cap ks′ xs′ vs′ zs ms cs log′ work u r (doNew (noneFree s h) v h)
+-- from what the parts of the taking say
+pub took : {s : Sizes} {r : CallRows} {st : State} {ks : List ℕ} {xs vs : List ℤ} {log : List ℕ} {next len : ℕ} (v : ℕ) → (st .first ≡ s .n → ⊥)
+    → ((n : ℕ) (fs : List Field) → Cells n (r .kinds) (r .values) fs → Taken n ks xs (st .first) next fs) → vs ≡ set (r .variables) v (variableOf (heldAs (s .n) (st .first)))
+    → ((n : ℕ) (ts : List Transaction) → Logged n (r .log) (st .len) ts → st .first < n → Logged n log len (ts ++ (transaction 1 (st .first) ∷ []))) → length log ≡ length (r .log)
+    → Does s (λ h. doNew (noneFree s h) v h) r st (record { kinds = ks; values = xs; variables = vs; log = log }) (worked (record { len = len; first = next; used = st .used; freed = st .freed }) (pos 0))
 unfolding doNew noneFree takeCell hold transaction
-took {n} {vs = vs} {first = first} {h = h} s v r en d W taking ev more D =
+took {s} {r} {st} v d taking ev more el t work h W =
     let f = W .rows .first in
-    let w = W .rows .within in
-    let i : first < n = below w d in
-    let T = taking n (h .shape .fields) (W .rows .cells) in
-    let H = held-set {hs = h .shape .variables} v (some first) (record { are = W .variables-are; inside = W .held-inside }) (λ a z. let y : first ≡ a = cc in omega arith)
-    (ev ∙ ap (λ (b : Bool). set vs v (variableOf (cond b (some first) none))) (lt-ltb first n i)) in
-    rw (ne-eqb (h .first) (s .n) (λ z. d (f ∙ z ∙ en)))
+    let i : st .first < s .n = below (W .rows .within) d in
+    let T = taking (s .n) (h .shape .fields) (W .rows .cells) in
+    let H = held-set {hs = h .shape .variables} v (some (st .first)) (record { are = W .variables-are; inside = W .held-inside }) (λ a z. let y : st .first ≡ a = cc in omega arith)
+    (ev ∙ ap (λ (b : Bool). set (r .variables) v (variableOf (cond b (some (st .first)) none))) (lt-ltb (st .first) (s .n) i)) in
+    rw (ne-eqb (h .first) (s .n) (λ z. d (f ∙ z)))
     (record {
       whole =
-          rw (D .len-is, D .first-is, ← f)
+          rw (← f)
           (record {
+            limits = W .limits;
             rows =
                 record {
-                  bounds = W .rows .bounds;
+                  most = W .rows .most;
+                  big = W .rows .big;
                   cells = T .cells;
                   ready = W .rows .ready;
                   first = T .next;
                   within = T .within;
+                  freed = W .rows .freed;
                 };
-            logged = more n (h .log) (W .logged) i;
+            logged = more (s .n) (h .log) (W .logged) i;
+            log-long = el ∙ W .log-long;
             variables-are = H .are;
             held-inside = H .inside;
             work-long = W .work-long;
           });
-      status = D .status-is;
-      value = D .value-is;
+      status = refl;
+      value = refl;
     })
   where
-    below : first ≤ n → (first ≡ n → ⊥) → first < n
+    below : st .first ≤ s .n → (st .first ≡ s .n → ⊥) → st .first < s .n
     below w d = omega arith

@@ -1,22 +1,20 @@
 // What a call does, on rows, after the settle before it.
 ghost use mathlib.Core.Path.{_≡_};
 ghost use mathlib.Core.Bool.{cond};
-ghost use mathlib.Core.List.{List, _++_};
+ghost use mathlib.Core.List.{List};
 ghost use mathlib.Core.Option.{Option, none};
 ghost use Prim.Native.Nat.{ℕ, _<_, _≤_};
 ghost use lib.ListN.{length, getD, set};
 ghost use lib.IntN.{pos};
 ghost use Rattle.rules.specs.declared.Call.the-variants.{Do};
-ghost use Rattle.rules.specs.declared.Used.{Used};
-ghost use Rattle.rules.specs.declared.Sizes.{Sizes};
-ghost use Rattle.rules.specs.Rules.{Transaction};
-ghost use Rattle.rules.specs.Settle.{Shape, Heap, drops};
-ghost use Rattle.rules.specs.Call.{var, at, makes, write, toCell, target, figureOf, sameCell};
+ghost use Rattle.rules.specs.Settle.{Shape};
+ghost use Rattle.rules.specs.Call.{at as fieldAt, target, figureOf, sameCell};
 ghost use Rattle.rules.specs.Step.{noneFree, doNew, doDeed, acted};
-ghost use Rattle.rules.specs.Whole.{Inside, Logged, Whole};
+ghost use Rattle.rules.specs.Whole.{Inside};
+ghost use Rattle.rules.specs.Lending.{callNow, callEntries, callExits};
 ghost use Rattle.cells.specs.Leaves.{heldAs};
 ghost use Rattle.before.specs.Seen.{Held, Shown, Reach};
-ghost use Rattle.calls.specs.Doing.{Did, Plain, Wrote, Writable, Linkable, Takeable, Able};
+ghost use Rattle.calls.specs.Doing.{logging, worked, Does, Writes, Links, Follows, Writable, Linkable, Takeable, Able};
 use before::field_of;
 use cells::add_entry;
 use cells::field_at;
@@ -29,11 +27,12 @@ use cells::value_of;
 use rules::Call;
 use rules::Deed;
 use rules::Field;
+use rules::Sizes;
+use rules::State;
 
-// What a call leaves: the log's length, the first free address, its status and value.
-pub struct Acted {
-    pub len: usize,
-    pub first: usize,
+// A call's answer, and where the batch stands after it.
+pub struct Worked {
+    pub state: State,
     pub status: usize,
     pub value: i32,
 }
@@ -86,7 +85,7 @@ fn follow(
     requires { ⌜ Reach n (now kinds) (now values) (now variables) v f ⌝ }
     requires { ⌜ (w < length (now variables)) × (n ≤ 1024) ⌝ }
     ensures value { λ r. ⌜ r ≡ pos 0 ⌝ }
-    ensures holds { λ _. ⌜ ((s : Shape) → Shown n (now (kinds .entry)) (now (values .entry)) (now (variables .entry)) s → Held n (now (variables .exit)) (set (s .variables) w (target (at s v f)))) ⌝ }
+    ensures holds { λ _. ⌜ Follows n v f w (now (kinds .entry)) (now (values .entry)) (now (variables .entry)) (now (variables .exit)) ⌝ }
 {
     let a = target_or(field_of(kinds, values, variables, n, v, f), n);
     hold(variables, w, n, a);
@@ -105,8 +104,8 @@ fn write(
     f: usize,
     x: Field,
 ) -> usize
-    requires { ⌜ Writable n (now kinds) (now values) (now variables) (now log) len v f x ⌝ }
-    ensures { λ r. ⌜ ((s : Shape) (ts : List Transaction) → Shown n (now (kinds .entry)) (now (values .entry)) (now (variables .entry)) s → Logged n (now (log .entry)) len ts → Wrote n (now (kinds .exit)) (now (values .exit)) (now (variables .entry)) (now (log .exit)) r (write s v f x) (ts ++ drops (at s v f))) ⌝ }
+    requires { ⌜ Writable n v f x (callNow kinds values variables log) len ⌝ }
+    ensures { λ r. ⌜ Writes n v f x (callEntries kinds values variables log) len (callExits kinds values variables log) r ⌝ }
 {
     let i = 2 * held(variables, v, n) + f;
     let old = field_at(kinds, values, i);
@@ -127,8 +126,8 @@ fn link(
     f: usize,
     w: usize,
 ) -> usize
-    requires { ⌜ Linkable n (now kinds) (now values) (now variables) (now log) len v f w ⌝ }
-    ensures { λ r. ⌜ ((s : Shape) (ts : List Transaction) → Shown n (now (kinds .entry)) (now (values .entry)) (now (variables .entry)) s → Logged n (now (log .entry)) len ts → Wrote n (now (kinds .exit)) (now (values .exit)) (now (variables .entry)) (now (log .exit)) r (write s v f (toCell (var s w))) (ts ++ (drops (at s v f) ++ makes (var s w)))) ⌝ }
+    requires { ⌜ Linkable n v f w (callNow kinds values variables log) len ⌝ }
+    ensures { λ r. ⌜ Links n v f w (callEntries kinds values variables log) len (callExits kinds values variables log) r ⌝ }
 {
     let b = held(variables, w, n);
     let l = write(kinds, values, variables, log, n, len, v, f, Field::Cell(b));
@@ -150,7 +149,7 @@ fn figure_of(f: Field) -> i32
 // The figure in field f of v's cell.
 fn read(kinds: &[u8], values: &[i32], variables: &[i32], n: usize, v: usize, f: usize) -> i32
     requires { ⌜ Reach n (now kinds) (now values) (now variables) v f ⌝ }
-    ensures { λ r. ⌜ ((s : Shape) → Shown n (now (kinds .entry)) (now (values .entry)) (now (variables .entry)) s → r ≡ figureOf (at s v f)) ⌝ }
+    ensures { λ r. ⌜ ((s : Shape) → Shown n (now (kinds .entry)) (now (values .entry)) (now (variables .entry)) s → r ≡ figureOf (fieldAt s v f)) ⌝ }
 {
     figure_of(field_of(kinds, values, variables, n, v, f))
 }
@@ -168,13 +167,19 @@ fn same(variables: &[i32], n: usize, v: usize, w: usize) -> i32
     if a == b { 1 } else { 0 }
 }
 
-// A call that was done, with its value.
-fn done(len: usize, first: usize, value: i32) -> Acted
-    ensures { λ r. ⌜ Plain len first value r ⌝ }
+// A call that was done, with its value and so many entries in the log.
+fn done(at: State, len: usize, value: i32) -> Worked
+    ensures { λ r. ⌜ r ≡ worked (logging at len) value ⌝ }
 {
-    Acted {
+    let used = at.used;
+    let state = State {
         len: len,
-        first: first,
+        first: at.first,
+        used: used,
+        freed: at.freed,
+    };
+    Worked {
+        state: state,
         status: 0,
         value: value,
     }
@@ -186,26 +191,37 @@ fn take(
     values: &mut [i32],
     variables: &mut [i32],
     log: &mut [u32],
-    n: usize,
-    len: usize,
-    first: usize,
+    sizes: Sizes,
+    at: State,
     v: usize,
-) -> Acted
-    requires { ⌜ Takeable n (now kinds) (now values) (now variables) (now log) len first v ⌝ }
-    ensures { λ r. ⌜ ((s : Sizes) (cap : ℕ) (zs ms cs work : List ℕ) (u : Used) (h : Heap) → s .n ≡ n → Whole n cap (now (kinds .entry)) (now (values .entry)) (now (variables .entry)) zs ms cs (now (log .entry)) work len first u h → Did n cap (now (kinds .exit)) (now (values .exit)) (now (variables .exit)) zs ms cs (now (log .exit)) work u r (doNew (noneFree s h) v h)) ⌝ }
+) -> Worked
+    requires { ⌜ Takeable (sizes .n) v (callNow kinds values variables log) at ⌝ }
+    ensures { λ r. ⌜ Does sizes (λ h. doNew (noneFree sizes h) v h) (callEntries kinds values variables log) at (callExits kinds values variables log) r ⌝ }
 {
+    let n = sizes.n;
+    let first = at.first;
     if first == n {
-        return Acted {
-            len: len,
-            first: first,
+        return Worked {
+            state: at,
             status: 14,
             value: 0,
         };
     }
     let next = take_free(kinds, values, first);
     hold(variables, v, n, first);
-    let l = add_entry(log, len, 1, first);
-    done(l, next, 0)
+    let l = add_entry(log, at.len, 1, first);
+    let used = at.used;
+    let state = State {
+        len: l,
+        first: next,
+        used: used,
+        freed: at.freed,
+    };
+    Worked {
+        state: state,
+        status: 0,
+        value: 0,
+    }
 }
 
 // What a deed does: it was not refused by 11 to 13, and its entries have room in the log.
@@ -215,32 +231,33 @@ fn do_deed(
     values: &mut [i32],
     variables: &mut [i32],
     log: &mut [u32],
-    n: usize,
-    len: usize,
-    first: usize,
-) -> Acted
-    requires { ⌜ Able n (now kinds) (now values) (now variables) (now log) len first (Do deed) ⌝ }
-    ensures { λ r. ⌜ ((cap : ℕ) (zs ms cs work : List ℕ) (u : Used) (h : Heap) → Whole n cap (now (kinds .entry)) (now (values .entry)) (now (variables .entry)) zs ms cs (now (log .entry)) work len first u h → Did n cap (now (kinds .exit)) (now (values .exit)) (now (variables .exit)) zs ms cs (now (log .exit)) work u r (doDeed deed h)) ⌝ }
+    sizes: Sizes,
+    at: State,
+) -> Worked
+    requires { ⌜ Able (sizes .n) (Do deed) (callNow kinds values variables log) at ⌝ }
+    ensures { λ r. ⌜ Does sizes (doDeed deed) (callEntries kinds values variables log) at (callExits kinds values variables log) r ⌝ }
 {
+    let n = sizes.n;
+    let len = at.len;
     match deed {
-        Deed::Copy(v, w) => done(len, first, copy(variables, n, v, w)),
-        Deed::Clear(v) => done(len, first, let_go(variables, n, v)),
+        Deed::Copy(v, w) => done(at, len, copy(variables, n, v, w)),
+        Deed::Clear(v) => done(at, len, let_go(variables, n, v)),
         Deed::Link(v, f, w) => {
             let l = link(kinds, values, variables, log, n, len, v, f, w);
-            done(l, first, 0)
+            done(at, l, 0)
         }
         Deed::Put(v, f, x) => {
             let to = Field::Figure(x);
             let l = write(kinds, values, variables, log, n, len, v, f, to);
-            done(l, first, 0)
+            done(at, l, 0)
         }
         Deed::Blank(v, f) => {
             let l = write(kinds, values, variables, log, n, len, v, f, Field::Nothing);
-            done(l, first, 0)
+            done(at, l, 0)
         }
-        Deed::Follow(v, f, w) => done(len, first, follow(kinds, values, variables, n, v, f, w)),
-        Deed::Read(v, f) => done(len, first, read(kinds, values, variables, n, v, f)),
-        Deed::Same(v, w) => done(len, first, same(variables, n, v, w)),
+        Deed::Follow(v, f, w) => done(at, len, follow(kinds, values, variables, n, v, f, w)),
+        Deed::Read(v, f) => done(at, len, read(kinds, values, variables, n, v, f)),
+        Deed::Same(v, w) => done(at, len, same(variables, n, v, w)),
     }
 }
 
@@ -251,17 +268,16 @@ pub fn act(
     values: &mut [i32],
     variables: &mut [i32],
     log: &mut [u32],
-    n: usize,
-    len: usize,
-    first: usize,
+    sizes: Sizes,
+    at: State,
     freed: usize,
-) -> Acted
-    requires { ⌜ Able n (now kinds) (now values) (now variables) (now log) len first call × (freed ≤ 1024) ⌝ }
-    ensures { λ r. ⌜ ((s : Sizes) (cap : ℕ) (zs ms cs work : List ℕ) (u : Used) (h : Heap) → s .n ≡ n → Whole n cap (now (kinds .entry)) (now (values .entry)) (now (variables .entry)) zs ms cs (now (log .entry)) work len first u h → Did n cap (now (kinds .exit)) (now (values .exit)) (now (variables .exit)) zs ms cs (now (log .exit)) work u r (acted s call freed h)) ⌝ }
+) -> Worked
+    requires { ⌜ Able (sizes .n) call (callNow kinds values variables log) at × (freed ≤ 1024) ⌝ }
+    ensures { λ r. ⌜ Does sizes (acted sizes call freed) (callEntries kinds values variables log) at (callExits kinds values variables log) r ⌝ }
 {
     match call {
-        Call::New(v) => take(kinds, values, variables, log, n, len, first, v),
-        Call::Do(deed) => do_deed(deed, kinds, values, variables, log, n, len, first),
-        Call::Settle => done(len, first, value_of(freed)),
+        Call::New(v) => take(kinds, values, variables, log, sizes, at, v),
+        Call::Do(deed) => do_deed(deed, kinds, values, variables, log, sizes, at),
+        Call::Settle => done(at, at.len, value_of(freed)),
     }
 }

@@ -4,7 +4,7 @@ use mathlib.Core.List.{List}
 use lib.IntN.{ℤ}
 use denote.Triple.Both.{Both}
 use denote.Ref.{RefT, now}
-use Rattle.rules.specs.Rows.{TableRows, HeapRows, Lent, tableRows, lent}
+use Rattle.rules.specs.Rows.{TableRows, HeapRows, CallRows, Lent, tableRows, lent}
 
 -- a row of unsigned numbers, and one of signed numbers, in a `requires`
 abbrev pub Row : Type 0
@@ -34,6 +34,17 @@ heapEntries kinds values zct mrt counts = heapNow (kinds .entry) (values .entry)
 
 abbrev pub heapExits : Both Row Row → Both SignedRow SignedRow → Both Row Row → Both Row Row → Both Row Row → HeapRows
 heapExits kinds values zct mrt counts = heapNow (kinds .exit) (values .exit) (zct .exit) (mrt .exit) (counts .exit)
+
+-- ---- the rows that a call works on
+
+abbrev pub callNow : Row → SignedRow → SignedRow → Row → CallRows
+callNow kinds values variables log = record { kinds = now kinds; values = now values; variables = now variables; log = now log }
+
+abbrev pub callEntries : Both Row Row → Both SignedRow SignedRow → Both SignedRow SignedRow → Both Row Row → CallRows
+callEntries kinds values variables log = callNow (kinds .entry) (values .entry) (variables .entry) (log .entry)
+
+abbrev pub callExits : Both Row Row → Both SignedRow SignedRow → Both SignedRow SignedRow → Both Row Row → CallRows
+callExits kinds values variables log = callNow (kinds .exit) (values .exit) (variables .exit) (log .exit)
 
 -- ---- all rows
 

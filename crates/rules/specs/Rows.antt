@@ -24,6 +24,13 @@ pub record HeapRows : Type 0 where
   pub values : List ℤ
   pub tables : TableRows
 
+-- the rows that a call works on, after the settle before it
+pub record CallRows : Type 0 where
+  pub kinds : List ℕ
+  pub values : List ℤ
+  pub variables : List ℤ
+  pub log : List ℕ
+
 -- the rows that are lent, by their names in document 01's table
 pub record Lent : Type 0 where
   pub kinds : List ℕ
@@ -36,6 +43,10 @@ pub record Lent : Type 0 where
 -- those of the cells and tables among them
 abbrev pub heapRows : Lent → HeapRows
 heapRows r = record { kinds = r .kinds; values = r .values; tables = r .tables }
+
+-- all rows, from those that a call works on, the tables' and the work row
+abbrev pub beside : TableRows → List ℕ → CallRows → Lent
+beside t work r = record { kinds = r .kinds; values = r .values; variables = r .variables; tables = t; log = r .log; work = work }
 
 -- the rows, one by one
 abbrev pub tableRows : List ℕ → List ℕ → List ℕ → TableRows

@@ -50,7 +50,7 @@ unfolding acted
 returns c =
     let d : tie.After-call = search needs in
     let g : tie.After-take = search needs in
-    λ s cap zs ms cs work u h e W. rw (d .call .given .1) (g .take .ensures s cap zs ms cs work u h e W)
+    λ t work h W. rw (d .call .given .1) (g .take .ensures t work h W)
 
 same-length-5 : tie.Need-same-length-5
 same-length-5 c = search needs
@@ -69,13 +69,13 @@ unfolding acted
 returns-2 c =
     let d : tie.After-call2 = search needs in
     let g : tie.After-do-deed = search needs in
-    λ s cap zs ms cs work u h e W. rw (d .call2 .given .1) (g .do-deed .ensures cap zs ms cs work u h W)
+    λ t work h W. rw (d .call2 .given .1) (g .do-deed .ensures t work h W)
 
 returns-3 : tie.Need-returns-3
 returns-3 c =
     let d : tie.After-enum-told = search needs in
     let g : tie.After-value-of = search needs in
-    λ s cap zs ms cs work u h e W. rw (d .enum-told .given .1) (did-settle W s _ (c .done .ensures) (back _ (g .value-of .ok) ∙ g .value-of .ensures))
+    λ t work h W. rw (d .enum-told .given .1) (did-settle W (c .done .ensures) _ (back _ (g .value-of .ok) ∙ g .value-of .ensures))
 
 pub act-spec : {M : Type 1} → statement M
 act-spec =

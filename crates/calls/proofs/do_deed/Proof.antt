@@ -1,4 +1,4 @@
-use mathlib.Core.Path.{refl, _∙_}
+use mathlib.Core.Path.{_∙_}
 use Rattle.cells.proofs.Signed.{back}
 use Rattle.calls.proofs.Arms.{can-reach, can-link, can-put, can-blank, did-copy, did-clear, did-follow, did-link, did-put, did-blank, did-read, did-same}
 use borrow.Author.Needs.{needs}
@@ -111,7 +111,7 @@ returns : tie.Need-returns
 returns c =
     let d : tie.After-deed = search needs in
     let g : tie.After-copy = search needs in
-    λ cap zs ms cs work u h W. rw (d .deed .given .1) (did-copy W _ _ (c .done .ensures) (back _ (g .copy .ok) ∙ g .copy .ensures .0) (g .copy .ensures .1))
+    λ t work h W. rw (d .deed .given .1) (did-copy W (c .done .ensures) (back _ (g .copy .ok) ∙ g .copy .ensures .0) _ _ (g .copy .ensures .1))
 
 same-length-2 : tie.Need-same-length-2
 same-length-2 c = search needs
@@ -120,7 +120,7 @@ returns-2 : tie.Need-returns-2
 returns-2 c =
     let d : tie.After-deed2 = search needs in
     let g : tie.After-let-go = search needs in
-    λ cap zs ms cs work u h W. rw (d .deed2 .given .1) (did-clear W _ (c .done2 .ensures) (back _ (g .let-go .ok) ∙ g .let-go .ensures .0) (g .let-go .ensures .1))
+    λ t work h W. rw (d .deed2 .given .1) (did-clear W (c .done2 .ensures) (back _ (g .let-go .ok) ∙ g .let-go .ensures .0) _ (g .let-go .ensures .1))
 
 same-length-3 : tie.Need-same-length-3
 same-length-3 c = search needs
@@ -138,7 +138,8 @@ returns-3 : tie.Need-returns-3
 returns-3 c =
     let d : tie.After-deed3 = search needs in
     let g : tie.After-link = search needs in
-    λ cap zs ms cs work u h W. rw (d .deed3 .given .1) (did-link W (c .done3 .ensures) refl _ _ _ (g .link .ensures))
+    let l : tie.After-log = search needs in
+    λ t work h W. rw (d .deed3 .given .1) (did-link W (c .done3 .ensures) (l .log .given) _ _ _ (g .link .ensures))
 
 same-length-7 : tie.Need-same-length-7
 same-length-7 c = search needs
@@ -157,8 +158,9 @@ returns-4 c =
     let s : tie.Start = search needs in
     let d : tie.After-deed4 = search needs in
     let g : tie.After-write = search needs in
+    let l : tie.After-log2 = search needs in
     let k = rw (d .deed4 .given .1) at (s .pre .fits) in
-    λ cap zs ms cs work u h W. rw (d .deed4 .given .1) (did-put W (c .done4 .ensures) refl _ _ _ _ (back _ (k .2)) (g .write .ensures))
+    λ t work h W. rw (d .deed4 .given .1) (did-put W (c .done4 .ensures) (l .log2 .given) _ _ _ _ (back _ (k .2)) (g .write .ensures))
 
 same-length-11 : tie.Need-same-length-11
 same-length-11 c = search needs
@@ -176,7 +178,8 @@ returns-5 : tie.Need-returns-5
 returns-5 c =
     let d : tie.After-deed5 = search needs in
     let g : tie.After-write2 = search needs in
-    λ cap zs ms cs work u h W. rw (d .deed5 .given .1) (did-blank W (c .done5 .ensures) refl _ _ (g .write2 .ensures))
+    let l : tie.After-log3 = search needs in
+    λ t work h W. rw (d .deed5 .given .1) (did-blank W (c .done5 .ensures) (l .log3 .given) _ _ (g .write2 .ensures))
 
 same-length-15 : tie.Need-same-length-15
 same-length-15 c = search needs
@@ -191,7 +194,7 @@ returns-6 : tie.Need-returns-6
 returns-6 c =
     let d : tie.After-deed6 = search needs in
     let g : tie.After-follow = search needs in
-    λ cap zs ms cs work u h W. rw (d .deed6 .given .1) (did-follow W _ _ _ (c .done6 .ensures) (back _ (g .follow .ok) ∙ g .follow .ensures .0) (g .follow .ensures .1))
+    λ t work h W. rw (d .deed6 .given .1) (did-follow W (c .done6 .ensures) (back _ (g .follow .ok) ∙ g .follow .ensures .0) _ _ _ (g .follow .ensures .1))
 
 same-length-18 : tie.Need-same-length-18
 same-length-18 c = search needs
@@ -206,7 +209,7 @@ returns-7 : tie.Need-returns-7
 returns-7 c =
     let d : tie.After-deed7 = search needs in
     let g : tie.After-read = search needs in
-    λ cap zs ms cs work u h W. rw (d .deed7 .given .1) (did-read W _ _ (c .done7 .ensures) (back _ (g .read .ok)) (g .read .ensures))
+    λ t work h W. rw (d .deed7 .given .1) (did-read W (c .done7 .ensures) _ _ (back _ (g .read .ok)) (g .read .ensures))
 
 same-length-21 : tie.Need-same-length-21
 same-length-21 c = search needs
@@ -215,7 +218,7 @@ returns-8 : tie.Need-returns-8
 returns-8 c =
     let d : tie.After-deed8 = search needs in
     let g : tie.After-same = search needs in
-    λ cap zs ms cs work u h W. rw (d .deed8 .given .1) (did-same W _ _ (c .done8 .ensures) (back _ (g .same .ok)) (g .same .ensures))
+    λ t work h W. rw (d .deed8 .given .1) (did-same W (c .done8 .ensures) _ _ (back _ (g .same .ok)) (g .same .ensures))
 
 pub do-deed-spec : {M : Type 1} → statement M
 do-deed-spec =

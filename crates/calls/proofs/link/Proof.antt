@@ -8,13 +8,19 @@ held-requires : tie.Need-held-requires
 held-requires c κs = search needs
 
 write-requires : tie.Need-write-requires
-write-requires c κs = link-writable (c .before .before .before .before .before .before .pre) (c .before .before .before .held .ensures)
+write-requires c κs =
+    let s : tie.Start = search needs in
+    let b : tie.After-held = search needs in
+    link-writable (s .pre) (b .held .ensures)
 
 add-entry-requires : tie.Need-add-entry-requires
 add-entry-requires c κs =
-    let p = c .before .before .before .before .before .before .before .before .before .before .before .before .before .pre in
-    let g = c .before .before .before .before .before .before .write .ensures (p .shape) (p .entries) (p .shown) (p .logged) .logged in
-    (link-room p (c .before .before .before .before .before .before .before .before .before .before .held .ensures) g (search needs), search needs)
+    let s : tie.Start = search needs in
+    let b : tie.After-held = search needs in
+    let w : tie.After-write = search needs in
+    let p = s .pre in
+    let g = w .write .ensures (p .shape) (p .list) (p .shown) (p .logged) .logged in
+    (link-room p (b .held .ensures) g (search needs), search needs)
 
 same-length : tie.Need-same-length
 same-length c = search needs
@@ -27,9 +33,12 @@ same-length-3 c = search needs
 
 returns : tie.Need-returns
 returns c =
-    let p = c .before .before .before .before .before .before .before .before .before .before .before .before .before .before .before .before .pre in
-    let b = c .before .before .before .before .before .before .before .before .before .before .before .before .before .held .ensures in
-    λ s ts S L. linked s ts _ _ _ _ (S .held) (p .w-below) b (link-near p b) (c .before .before .before .before .before .before .before .before .before .write .ensures s ts S L) (c .before .before .add-entry .ensures .1)
+    let s : tie.Start = search needs in
+    let b : tie.After-held = search needs in
+    let w : tie.After-write = search needs in
+    let l : tie.After-add-entry = search needs in
+    let e = b .held .ensures in
+    λ sh ts S L. linked sh ts _ _ _ _ (S .held) (s .pre .w-below) e (link-near (s .pre) e) (w .write .ensures sh ts S L) (l .add-entry .ensures .1)
 
 pub link-spec : {M : Type 1} → statement M
 link-spec =

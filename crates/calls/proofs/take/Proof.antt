@@ -1,11 +1,10 @@
-use mathlib.Core.Path.{refl}
 use Rattle.calls.proofs.Acting.{none-free, took}
 use borrow.Author.Needs.{needs}
 use Rattle.calls.proofs.take.Statement.{statement}
 use Rattle.calls.proofs.take.Tie as tie
 
 returns : tie.Need-returns
-returns c = λ s cap zs ms cs work u h e W. none-free s _ _ e (c .if1 .taken) W refl refl refl refl
+returns c = λ t work h W. none-free _ (c .if1 .taken) W
 
 take-free-requires : tie.Need-take-free-requires
 take-free-requires c κs = search needs
@@ -15,9 +14,6 @@ hold-requires c κs = search needs
 
 add-entry-requires : tie.Need-add-entry-requires
 add-entry-requires c κs = search needs
-
-done-requires : tie.Need-done-requires
-done-requires c κs = search needs
 
 same-length : tie.Need-same-length
 same-length c = search needs
@@ -33,8 +29,12 @@ same-length-4 c = search needs
 
 returns-2 : tie.Need-returns-2
 returns-2 c =
-    λ s cap zs ms cs work u h e W.
-    took s _ _ e (c .before .before .before .before .before .before .before .before .before .before .before .before .before .before .if1 .left) W (c .before .before .before .before .before .before .before .before .before .before .before .take-free .ensures) (c .before .before .before .before .before .before .hold .ensures) (c .before .before .before .add-entry .ensures .1) (c .done .ensures)
+    let l : tie.After-log = search needs in
+    let m : tie.After-add-entry = search needs in
+    let h : tie.After-hold = search needs in
+    let f : tie.After-take-free = search needs in
+    let e : tie.Else1 = search needs in
+    took _ (e .if1 .left) (f .take-free .ensures) (h .hold .ensures) (m .add-entry .ensures .1) (l .log .given)
 
 pub take-spec : {M : Type 1} → statement M
 take-spec =
@@ -44,7 +44,6 @@ take-spec =
     take-free-requires
     hold-requires
     add-entry-requires
-    done-requires
     same-length
     same-length-2
     same-length-3

@@ -1,6 +1,6 @@
 use native.Mathlib.Omega.{arith}
 use Rattle.cells.proofs.Storing.{inside-more}
-use Rattle.calls.proofs.Acting.{near, write-place, write-old, wrote}
+use Rattle.calls.proofs.Acting.{write-place, write-old, wrote}
 use borrow.Author.Needs.{needs}
 use Rattle.calls.proofs.write.Statement.{statement}
 use Rattle.calls.proofs.write.Tie as tie
@@ -20,16 +20,24 @@ add-i c =
     omega arith
 
 field-at-requires : tie.Need-field-at-requires
-field-at-requires c κs = let k = write-place (c .before .before .before .before .before .pre) (c .before .before .held .ensures) in (k .0, k .1 .0)
+field-at-requires c κs =
+    let s : tie.Start = search needs in
+    let a : tie.After-held = search needs in
+    let k = write-place (s .pre) (a .held .ensures) in
+    (k .0, k .1 .0)
 
 log-old-requires : tie.Need-log-old-requires
-log-old-requires c κs = write-old (c .before .before .before .before .before .before .before .pre) (c .before .before .before .before .held .ensures) _ (c .before .field-at .ensures)
+log-old-requires c κs =
+    let s : tie.Start = search needs in
+    let a : tie.After-held = search needs in
+    write-old (s .pre) (a .held .ensures) _ (c .before .field-at .ensures)
 
 put-field-requires : tie.Need-put-field-requires
 put-field-requires c κs =
-    let p = c .before .before .before .before .before .before .before .before .before .before .before .before .pre in
-    let k = write-place p (c .before .before .before .before .before .before .before .before .before .held .ensures) in
-    ((k .0, k .1 .0), inside-more (c .before .before .before .before .before .before .before .before .before .before .before .before .args .x) (p .most) (p .inside))
+    let s : tie.Start = search needs in
+    let a : tie.After-held = search needs in
+    let k = write-place (s .pre) (a .held .ensures) in
+    ((k .0, k .1 .0), inside-more (s .args .x) (s .pre .most) (s .pre .inside))
 
 same-length : tie.Need-same-length
 same-length c = search needs
@@ -42,10 +50,12 @@ same-length-3 c = search needs
 
 returns : tie.Need-returns
 returns c =
-    let p = c .before .before .before .before .before .before .before .before .before .before .before .before .before .before .before .before .pre in
-    let a = c .before .before .before .before .before .before .before .before .before .before .before .before .before .held .ensures in
-    let w = c .before .before .before .put-field .ensures in
-    λ s ts S L. wrote _ _ _ _ _ S L (p .v-below) a (near p a) (p .inside) (c .before .before .before .before .before .before .before .before .before .before .field-at .ensures) (w .0) (w .1) (c .before .before .before .before .before .before .before .before .log-old .ensures .1)
+    let w : tie.After-put-field = search needs in
+    let l : tie.After-log-old = search needs in
+    let o : tie.After-field-at = search needs in
+    let a : tie.After-held = search needs in
+    let s : tie.Start = search needs in
+    wrote (s .pre) (a .held .ensures) (o .field-at .result) (o .field-at .ensures) (w .put-field .ensures .0) (w .put-field .ensures .1) (l .log-old .ensures .1)
 
 pub write-spec : {M : Type 1} → statement M
 write-spec =

@@ -52,7 +52,8 @@ loop-again c =
     let in-zct : tie.Then2 Inv-loop μ-loop = search needs in
     let none : tie.Else3 Inv-loop μ-loop = search needs in
     let apart : tie.After-stands2 Inv-loop μ-loop = search needs in
-    turn-zct _ _ _ _ (start .pre .1 .1) _ _ _ (loop .loop .inv) (below .if1 .taken) (in-zct .before .stands .ensures .yes (in-zct .if2 .taken)) (apart .stands2 .ensures .no (c .if4 .left)) (none .if3 .left)
+    turn-zct _ _ _ _ (start .pre .1 .1) _ _ _ (loop .loop .inv) (below .if1 .taken)
+    (in-zct .before .stands .ensures .yes (in-zct .if2 .taken)) (apart .stands2 .ensures .no (c .if4 .left)) (none .if3 .left)
 
 stands-requires-3 : tie.Need-stands-requires-3 Inv-loop μ-loop
 stands-requires-3 c κs = search needs
@@ -85,7 +86,8 @@ loop-again-2 c =
     let below : tie.Then1 Inv-loop μ-loop = search needs in
     let not-zct : tie.Else2 Inv-loop μ-loop = search needs in
     let in-mrt : tie.Then5 Inv-loop μ-loop = search needs in
-    turn-mrt _ _ _ _ (start .pre .1 .1) _ _ _ (loop .loop .inv) (below .if1 .taken) (not-zct .before .stands .ensures .no (not-zct .if2 .left)) (in-mrt .before .stands3 .ensures .yes (in-mrt .if5 .taken))
+    turn-mrt _ _ _ _ (start .pre .1 .1) _ _ _ (loop .loop .inv) (below .if1 .taken)
+    (not-zct .before .stands .ensures .no (not-zct .if2 .left)) (in-mrt .before .stands3 .ensures .yes (in-mrt .if5 .taken))
     (passed (c .before .exact .ensures) (c .if6 .left))
 
 single-requires : tie.Need-single-requires Inv-loop μ-loop
@@ -99,7 +101,8 @@ returns-3 c =
     let not-zct : tie.Else2 Inv-loop μ-loop = search needs in
     let not-mrt : tie.Else5 Inv-loop μ-loop = search needs in
     isn't
-    (lonely _ _ _ _ (start .pre .1 .1) _ _ _ (loop .loop .inv) (below .if1 .taken) (not-zct .before .stands .ensures .no (not-zct .if2 .left)) (not-mrt .before .stands3 .ensures .no (not-mrt .if5 .left))
+    (lonely _ _ _ _ (start .pre .1 .1) _ _ _ (loop .loop .inv) (below .if1 .taken)
+    (not-zct .before .stands .ensures .no (not-zct .if2 .left)) (not-mrt .before .stands3 .ensures .no (not-mrt .if5 .left))
     (refused (c .before .single .ensures) (c .if7 .taken)))
 
 add-a-3 : tie.Need-add-a-3 Inv-loop μ-loop
@@ -115,7 +118,8 @@ loop-again-3 c =
     let below : tie.Then1 Inv-loop μ-loop = search needs in
     let not-zct : tie.Else2 Inv-loop μ-loop = search needs in
     let not-mrt : tie.Else5 Inv-loop μ-loop = search needs in
-    turn-one _ _ _ _ (start .pre .1 .1) _ _ _ (loop .loop .inv) (below .if1 .taken) (not-zct .before .stands .ensures .no (not-zct .if2 .left)) (not-mrt .before .stands3 .ensures .no (not-mrt .if5 .left))
+    turn-one _ _ _ _ (start .pre .1 .1) _ _ _ (loop .loop .inv) (below .if1 .taken)
+    (not-zct .before .stands .ensures .no (not-zct .if2 .left)) (not-mrt .before .stands3 .ensures .no (not-mrt .if5 .left))
     (passed (c .before .single .ensures) (c .if7 .left))
 
 returns-4 : tie.Need-returns-4 Inv-loop μ-loop

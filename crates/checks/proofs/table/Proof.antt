@@ -37,7 +37,10 @@ ascends-requires : tie.Need-ascends-requires Inv-loop μ-loop
 ascends-requires c κs = search needs
 
 returns-2 : tie.Need-returns-2 Inv-loop μ-loop
-returns-2 c = isn't (λ t. refused (c .before .ascends .ensures) (c .if2 .taken) (λ i e. let l = c .before .before .before .before .before .loop-test .taken in rw (sym e) (t .ascending i (omega arith))))
+returns-2 c =
+    let below : tie.In-loop Inv-loop μ-loop = search needs in
+    let l = below .loop-test .taken in
+    isn't (λ t. refused (c .before .ascends .ensures) (c .if2 .taken) (λ i e. rw (sym e) (t .ascending i (omega arith))))
 
 add-j : tie.Need-add-j Inv-loop μ-loop
 add-j c = omega arith

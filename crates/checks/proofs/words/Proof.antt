@@ -71,7 +71,10 @@ returns : tie.Need-returns Inv-loop2 μ-loop2 Inv-loop μ-loop Inv-rows μ-rows
 returns c = truly (c .before .rows .inv .1 .0) (λ b h g k. in-last _ _ _ _ _ (c .before .rows .inv .1 .1 1 (omega arith) b h g k))
 
 returns-2 : tie.Need-returns-2 Inv-loop2 μ-loop2 Inv-loop μ-loop Inv-rows μ-rows
-returns-2 c = isn't (λ w. refused (c .before .word-in .ensures) (c .if1 .taken) (in-row _ _ _ _ _ _ (w _ (c .before .before .before .before .loop-test .taken) _ (c .before .before .loop2-test .taken))))
+returns-2 c =
+    let cell = c .before .before .before .before .loop-test .taken in
+    let part = c .before .before .loop2-test .taken in
+    isn't (λ w. refused (c .before .word-in .ensures) (c .if1 .taken) (in-row _ _ _ _ _ _ (w _ cell _ part)))
 
 pub words-spec : {M : Type 1} → statement M
 words-spec =
