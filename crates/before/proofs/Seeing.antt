@@ -13,7 +13,7 @@ use Rattle.rules.specs.declared.Field.{Field}
 use Rattle.rules.specs.declared.Field.the-variants.{Nothing}
 use Rattle.rules.specs.declared.Call.{Call}
 use Rattle.rules.specs.Field.{addressOf, variableOf, fieldOf}
-use Rattle.rules.specs.Settle.{Shape, place, field}
+use Rattle.rules.specs.Heap.{Shape, place, field}
 use Rattle.rules.specs.Call.{var, at, isHeld, makes}
 use Rattle.cells.specs.Leaves.{heldAs}
 use Rattle.cells.proofs.Storing.{read}

@@ -7,7 +7,7 @@ use lib.ListN.{length, getD}
 use lib.IntN.{ℤ}
 use Rattle.rules.specs.declared.Call.{Call}
 use Rattle.rules.specs.Field.{variableOf}
-use Rattle.rules.specs.Settle.{Shape}
+use Rattle.rules.specs.Heap.{Shape}
 use Rattle.rules.specs.Whole.{Cells}
 use Rattle.rules.specs.Call.{Fits}
 

@@ -14,9 +14,8 @@ use Rattle.rules.specs.declared.Field.the-variants.{Nothing, Figure, Cell, Free
 use Rattle.rules.specs.declared.State.{State}
 use Rattle.rules.specs.declared.Sizes.{Sizes}
 use Rattle.rules.specs.Field.{addressOf, variableOf, fieldOf, kindOf, valueOf}
-use Rattle.rules.specs.Rules.{Transaction}
-use Rattle.rules.specs.Settle.{Shape, Heap, place, field, drops}
-use Rattle.rules.specs.Call.{var, at, isHeld, want, write, hold, toCell, target, makes, sameCell}
+use Rattle.rules.specs.Heap.{Transaction, Shape, Heap, place, field}
+use Rattle.rules.specs.Call.{drops, var, at, isHeld, want, write, hold, toCell, target, makes, sameCell}
 use Rattle.rules.specs.Step.{noneFree, doNew, takeCell}
 use Rattle.rules.specs.Rows.{CallRows, Lent}
 use Rattle.rules.specs.Whole.{Inside, Cells, Logged, Whole}

@@ -15,18 +15,18 @@ use Rattle.rules.specs.declared.Call.the-variants.{New, Do, Settle}
 use Rattle.rules.specs.declared.State.{State}
 use Rattle.rules.specs.declared.Sizes.{Sizes}
 use Rattle.rules.specs.Field.{addressOf}
-use Rattle.rules.specs.Settle.{Shape, Heap, drops}
-use Rattle.rules.specs.Call.{Fits, var, at, isHeld, want, refuses, check, logs, act, value, hold, makes, figureOf, sameCell}
+use Rattle.rules.specs.Heap.{Shape, Heap}
+use Rattle.rules.specs.Call.{drops, Fits, var, at, isHeld, want, refuses, check, logs, act, value, hold, makes, figureOf, sameCell}
 use Rattle.rules.specs.Step.{needs, doDeed, acted}
 use Rattle.rules.specs.Rows.{TableRows, CallRows, Lent, beside}
 use Rattle.rules.specs.Whole.{Logged, Whole}
 use Rattle.rules.proofs.Calls.{two-11}
 use Rattle.cells.proofs.Storing.{cell-lengths}
 use Rattle.cells.proofs.Logging.{logged-same}
-use Rattle.calls.specs.declared.Worked.{Worked}
 use Rattle.before.specs.Seen.{Held, Shown, Reach}
 use Rattle.calls.specs.Doing.{logging, worked, Did, Writes, Links, Follows, Writable, Linkable, Takeable, Able}
 use Rattle.calls.proofs.Acting.{holder}
+use Rattle.calls.specs.declared.Worked.{Worked}
 
 -- ---- link's two steps
 

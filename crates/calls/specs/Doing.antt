@@ -8,14 +8,13 @@ use Rattle.rules.specs.declared.Call.{Call}
 use Rattle.rules.specs.declared.Field.{Field}
 use Rattle.rules.specs.declared.Sizes.{Sizes}
 use Rattle.rules.specs.declared.State.{State}
-use Rattle.rules.specs.Rules.{Transaction}
-use Rattle.rules.specs.Settle.{Shape, Heap, drops}
-use Rattle.rules.specs.Call.{Fits, var, at, isHeld, want, check, write, toCell, target, makes}
+use Rattle.rules.specs.Heap.{Transaction, Shape, Heap}
+use Rattle.rules.specs.Call.{drops, Fits, var, at, isHeld, want, check, write, toCell, target, makes}
 use Rattle.rules.specs.Step.{Stepped, needs}
 use Rattle.rules.specs.Rows.{TableRows, CallRows, Lent, beside}
 use Rattle.rules.specs.Whole.{Inside, Logged, Whole}
-use Rattle.calls.specs.declared.Worked.{Worked}
 use Rattle.before.specs.Seen.{Held, Shown}
+use Rattle.calls.specs.declared.Worked.{Worked}
 
 -- where the batch stands, with k entries in the log
 abbrev pub logging : State → ℕ → State

@@ -7,7 +7,7 @@ ghost use Prim.Native.Nat.{ℕ, _<_, _≤_};
 ghost use lib.ListN.{length, getD, set};
 ghost use lib.IntN.{pos};
 ghost use Rattle.rules.specs.declared.Call.the-variants.{Do};
-ghost use Rattle.rules.specs.Settle.{Shape};
+ghost use Rattle.rules.specs.Heap.{Shape};
 ghost use Rattle.rules.specs.Call.{at as fieldAt, target, figureOf, sameCell};
 ghost use Rattle.rules.specs.Step.{noneFree, doNew, doDeed, acted};
 ghost use Rattle.rules.specs.Whole.{Inside};

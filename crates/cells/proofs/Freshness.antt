@@ -11,7 +11,6 @@ use lib.IntN.{ℤ, negsuc}
 use Rattle.rules.specs.declared.Field.{Field}
 use Rattle.rules.specs.declared.Field.the-variants.{Nothing, Free}
 use Rattle.rules.specs.Field.{kindOf, valueOf, variableOf}
-use Rattle.rules.specs.declared.Sizes.{Sizes}
 use Rattle.rules.specs.Table.{pad}
 use Rattle.rules.specs.Step.{freeFrom, fresh}
 use Rattle.rules.specs.Head.{freshHead}
@@ -20,6 +19,7 @@ use Rattle.rules.specs.Sound.{Sized}
 use Rattle.rules.proofs.Whole.{lent-as}
 use Rattle.rules.proofs.Fresh.{fresh-len}
 use Rattle.cells.proofs.Filling.{put-two}
+use Rattle.rules.specs.declared.Sizes.{Sizes}
 
 -- k cells free, and the one after them
 free-more : (a k : ℕ) → freeFrom a (suc k) ≡ freeFrom a k ++ (Free (suc (a + k)) ∷ Nothing ∷ [])

@@ -9,7 +9,7 @@ use lib.ListN.{length, drop, getD, set, replicate, length-set, length-append, le
 use lib.Seq.{getD-set-same, getD-set-other}
 use lib.Dec.{eqb}
 use borrow.Author.Tests.{eqb-true, eqb-false}
-use Rattle.rules.specs.Rules.{Transaction, allocates, creates, destroys}
+use Rattle.rules.specs.Heap.{Transaction, allocates, creates, destroys}
 use Rattle.rules.specs.Rows.{words}
 use Rattle.rules.specs.Whole.{Logged}
 use Rattle.rules.proofs.Roundtrip.{length-words}

@@ -8,7 +8,7 @@ use lib.IntN.{ℤ, pos}
 use Rattle.rules.specs.declared.Field.{Field}
 use Rattle.rules.specs.declared.Field.the-variants.{Nothing, Figure, Cell, Free}
 use Rattle.rules.specs.Field.{fieldOf, kindOf, valueOf}
-use Rattle.rules.specs.Settle.{place, field, store}
+use Rattle.rules.specs.Heap.{place, field, store}
 use Rattle.rules.specs.Step.{after}
 use Rattle.rules.specs.Whole.{Inside, Cells}
 use Rattle.rules.proofs.Lists.{map-set, set-each}

@@ -5,7 +5,7 @@ use mathlib.Core.List.{List}
 use lib.IntN.{ℤ}
 use Rattle.rules.specs.declared.Field.{Field}
 use Rattle.rules.specs.declared.Field.the-variants.{Nothing, Free}
-use Rattle.rules.specs.Settle.{field, store}
+use Rattle.rules.specs.Heap.{field, store}
 use Rattle.rules.specs.Step.{after}
 use Rattle.rules.specs.Whole.{Cells}
 

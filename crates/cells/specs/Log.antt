@@ -5,7 +5,7 @@ use mathlib.Core.Bool.{cond}
 use mathlib.Core.List.{List, _∷_}
 use lib.Dec.{eqb}
 use lib.ListN.{getD, drop}
-use Rattle.rules.specs.Rules.{Transaction, allocates, creates, destroys}
+use Rattle.rules.specs.Heap.{Transaction, allocates, creates, destroys}
 use Rattle.rules.specs.Whole.{Logged}
 use Rattle.cells.specs.declared.Note.{Note}
 

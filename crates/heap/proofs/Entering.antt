@@ -13,7 +13,7 @@ use Rattle.rules.specs.declared.Call.{Call}
 use Rattle.rules.specs.declared.Outcome.{Outcome}
 use Rattle.rules.specs.declared.Sizes.{Sizes}
 use Rattle.rules.specs.Head.{Limits, Says, sized, freshHead, zeroHead}
-use Rattle.rules.specs.Settle.{Heap}
+use Rattle.rules.specs.Heap.{Heap}
 use Rattle.rules.specs.Call.{callsIn}
 use Rattle.rules.specs.Step.{calls, batch, fresh}
 use Rattle.rules.specs.Rows.{Lent, lent, rowsOf, heapOf}

@@ -11,8 +11,10 @@ use Rattle.rules.specs.declared.State.{State}
 use Rattle.rules.specs.declared.Field.{Field}
 use Rattle.rules.specs.declared.Field.the-variants.{Nothing, Cell}
 use Rattle.rules.specs.Field.{fieldOf}
-use Rattle.rules.specs.Rules.{destroys, apply, replay}
-use Rattle.rules.specs.Settle.{Heap, place, field, drops, freeCell}
+use Rattle.rules.specs.Heap.{destroys, Heap, place, field}
+use Rattle.rules.specs.Rules.{apply, replay}
+use Rattle.rules.specs.Call.{drops}
+use Rattle.rules.specs.Settle.{freeCell}
 use Rattle.rules.specs.Rows.{TableRows, HeapRows}
 use Rattle.rules.specs.Whole.{Inside, Rows}
 use Rattle.tables.specs.Row.{TablesBy}

@@ -15,8 +15,10 @@ use Rattle.rules.specs.declared.State.{State}
 use Rattle.rules.specs.declared.Field.{Field}
 use Rattle.rules.specs.declared.Field.the-variants.{Nothing, Figure, Cell, Free}
 use Rattle.rules.specs.Table.{has, Ascending}
-use Rattle.rules.specs.Rules.{Tables, destroys, leaveZct, apply, replay}
-use Rattle.rules.specs.Settle.{Heap, field, holds, pick, drops, freeCell, reclaim}
+use Rattle.rules.specs.Heap.{Tables, destroys, Heap, field}
+use Rattle.rules.specs.Rules.{leaveZct, apply, replay}
+use Rattle.rules.specs.Settle.{holds, pick, freeCell, reclaim}
+use Rattle.rules.specs.Call.{drops}
 use Rattle.rules.specs.Rows.{HeapRows}
 use Rattle.rules.specs.Whole.{Rows}
 use Rattle.rules.specs.Invariant.{View, view}

@@ -10,8 +10,10 @@ use Rattle.rules.specs.declared.State.{State}
 use Rattle.rules.specs.declared.Field.{Field}
 use Rattle.rules.specs.declared.Field.the-variants.{Nothing, Figure, Cell, Free}
 use Rattle.rules.specs.Table.{Ascending}
-use Rattle.rules.specs.Rules.{Tables, leaveZct, replay}
-use Rattle.rules.specs.Settle.{Heap, drops, field, freeCell, reclaim}
+use Rattle.rules.specs.Heap.{Tables, Heap, field}
+use Rattle.rules.specs.Rules.{leaveZct, replay}
+use Rattle.rules.specs.Call.{drops}
+use Rattle.rules.specs.Settle.{freeCell, reclaim}
 use Rattle.rules.specs.Rows.{HeapRows}
 use Rattle.rules.specs.Whole.{Rows}
 use Rattle.cells.specs.Marks.{Marks}

@@ -3,7 +3,7 @@ ghost use mathlib.Core.Path.{_≡_};
 ghost use Prim.Native.Nat.{_<_};
 ghost use lib.ListN.{length, getD};
 ghost use Rattle.rules.specs.Rules.{replay};
-ghost use Rattle.rules.specs.Settle.{drops};
+ghost use Rattle.rules.specs.Call.{drops};
 ghost use Rattle.rules.specs.Whole.{Inside};
 ghost use Rattle.rules.specs.Lending.{tablesNow, tableEntries, tableExits, heapNow, heapEntries, heapExits};
 ghost use Rattle.tables.specs.Row.{Tabled, TablesBy};

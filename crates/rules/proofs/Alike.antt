@@ -18,7 +18,7 @@ use Rattle.rules.specs.declared.Call.{Call}
 use Rattle.rules.specs.declared.Call.the-variants.{New, Do, Settle}
 use Rattle.rules.specs.declared.Sizes.{Sizes}
 use Rattle.rules.specs.Field.{kindOf, valueOf}
-use Rattle.rules.specs.Settle.{Heap}
+use Rattle.rules.specs.Heap.{Heap}
 use Rattle.rules.specs.Call.{Answer, isBelow, isNought, isSigned32, given, number, callBy, callOf, andThen, callsOf, callsIn}
 use Rattle.rules.specs.Rows.{rowsOf, headOf}
 use Rattle.rules.specs.Refusals.{answerWords, answered}

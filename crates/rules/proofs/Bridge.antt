@@ -17,7 +17,8 @@ use Rattle.rules.specs.declared.Sizes.{Sizes}
 use Rattle.rules.specs.Field.{kindOf, valueOf, variableOf, addressOf}
 use Rattle.rules.specs.Table.{Entry, has, countIn, addresses, counts, pad, Ascending}
 use Rattle.rules.specs.Rules.{replay}
-use Rattle.rules.specs.Settle.{Heap, holds, pick, place, field}
+use Rattle.rules.specs.Heap.{Heap, place, field}
+use Rattle.rules.specs.Settle.{holds, pick}
 use Rattle.rules.specs.Head.{Limits}
 use Rattle.rules.specs.Rows.{rowsOf, headOf}
 use Rattle.rules.specs.Whole.{Kept}

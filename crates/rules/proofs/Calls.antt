@@ -18,9 +18,10 @@ use Rattle.rules.specs.declared.Deed.the-variants.{Copy, Clear, Link, Pu
 use Rattle.rules.specs.declared.Call.{Call}
 use Rattle.rules.specs.declared.Call.the-variants.{New, Do, Settle}
 use Rattle.rules.specs.declared.Sizes.{Sizes}
-use Rattle.rules.specs.Rules.{Tables, Transaction, replay}
-use Rattle.rules.specs.Settle.{Shape, drops, holds, field, store}
-use Rattle.rules.specs.Call.{var, at, isHeld, isCell, want, makes, logs, write, hold, toCell, target, act, isBelow, isNought, isSigned32, given, number, callOf, andThen, callsOf, callsIn, InRange, Fits, AllFit, refuses}
+use Rattle.rules.specs.Heap.{Tables, Transaction, Shape, field, store}
+use Rattle.rules.specs.Rules.{replay}
+use Rattle.rules.specs.Call.{drops, var, at, isHeld, isCell, want, makes, logs, write, hold, toCell, target, act, isBelow, isNought, isSigned32, given, number, callOf, andThen, callsOf, callsIn, InRange, Fits, AllFit, refuses}
+use Rattle.rules.specs.Settle.{holds}
 use Rattle.rules.specs.Head.{Limits}
 use Rattle.rules.specs.Invariant.{hit, refs, used, live, Counted, Good, Fitting, Small}
 use Rattle.rules.proofs.Exact.{gains, drop-counted, gain-counted}

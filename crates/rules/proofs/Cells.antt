@@ -12,8 +12,8 @@ use lib.Seq.{getD-set-same, getD-set-other}
 use borrow.Author.Tests.{eqb-true, eqb-false, ltb-true, ltb-false}
 use Rattle.rules.specs.declared.Field.{Field}
 use Rattle.rules.specs.declared.Field.the-variants.{Nothing, Figure, Cell, Free}
-use Rattle.rules.specs.Rules.{Tables}
-use Rattle.rules.specs.Settle.{drops, place, field, store}
+use Rattle.rules.specs.Heap.{Tables, place, field, store}
+use Rattle.rules.specs.Call.{drops}
 use Rattle.rules.specs.Invariant.{hit, refs, used, live, Good, Fitting, Small}
 use Rattle.rules.proofs.Tables.{eqb-self}
 use Rattle.rules.proofs.Exact.{refs-set}

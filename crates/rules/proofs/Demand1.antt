@@ -14,7 +14,7 @@ use Rattle.rules.specs.declared.Head.{Head}
 use Rattle.rules.specs.declared.Call.{Call}
 use Rattle.rules.specs.declared.Sizes.{Sizes}
 use Rattle.rules.specs.Head.{freshHead, zeroHead}
-use Rattle.rules.specs.Settle.{Heap}
+use Rattle.rules.specs.Heap.{Heap}
 use Rattle.rules.specs.Call.{Answer, callsIn}
 use Rattle.rules.specs.Step.{step, calls, batch, fresh}
 use Rattle.rules.specs.Rows.{Lent, rowsOf, heapOf}

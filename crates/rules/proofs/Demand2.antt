@@ -16,7 +16,8 @@ use Rattle.rules.specs.declared.Call.{Call}
 use Rattle.rules.specs.declared.Call.the-variants.{New}
 use Rattle.rules.specs.declared.Sizes.{Sizes}
 use Rattle.rules.specs.Field.{kindOf, variableOf}
-use Rattle.rules.specs.Settle.{Heap, place, field, settled}
+use Rattle.rules.specs.Heap.{Heap, place, field}
+use Rattle.rules.specs.Settle.{settled}
 use Rattle.rules.specs.Call.{Answer, AllFit, callOf, callsOf, callsIn, hold}
 use Rattle.rules.specs.Step.{Stepped, full, noneFree, wants, settledIf, takeCell, doNew, acted, run, step, calls, unfreed, batch}
 use Rattle.rules.specs.Rows.{Lent, rowsOf, headOf, heapOf}

@@ -19,8 +19,9 @@ use Rattle.rules.specs.declared.Call.{Call}
 use Rattle.rules.specs.declared.Call.the-variants.{New, Do, Settle}
 use Rattle.rules.specs.declared.Sizes.{Sizes}
 use Rattle.rules.specs.Head.{Limits}
-use Rattle.rules.specs.Rules.{Tables, replay}
-use Rattle.rules.specs.Settle.{Shape, Heap, place, field, store, freeCell, replayed, settledBy, settled}
+use Rattle.rules.specs.Heap.{Tables, Shape, Heap, place, field, store}
+use Rattle.rules.specs.Rules.{replay}
+use Rattle.rules.specs.Settle.{freeCell, replayed, settledBy, settled}
 use Rattle.rules.specs.Call.{InRange, Fits, unless, var, refuses, check, hold, act}
 use Rattle.rules.specs.Step.{Stepped, refused, noneFree, wants, settledIf, settledFor, takeCell, doNew, doDeed, acted, run, step, fresh}
 use Rattle.rules.specs.Endless.{Endless, endless, EndlessStep, endlessRun, endlessStep, says}

@@ -14,8 +14,9 @@ use Rattle.rules.specs.declared.Deed.the-variants.{Copy, Clear, Link, Pu
 use Rattle.rules.specs.declared.Call.{Call}
 use Rattle.rules.specs.declared.Call.the-variants.{New, Do, Settle}
 use Rattle.rules.specs.declared.Sizes.{Sizes}
-use Rattle.rules.specs.Settle.{Shape, Heap, place, field, store, drops, pick, freeCell, onPick, reclaim, replayed, settledBy, settled}
-use Rattle.rules.specs.Call.{Answer, unless, var, at, isCell, isFigure, refuses, check, logs, write, hold, toCell, target, act, value}
+use Rattle.rules.specs.Heap.{Shape, Heap, place, field, store}
+use Rattle.rules.specs.Call.{drops, Answer, unless, var, at, isCell, isFigure, refuses, check, logs, write, hold, toCell, target, act, value}
+use Rattle.rules.specs.Settle.{pick, freeCell, onPick, reclaim, replayed, settledBy, settled}
 use Rattle.rules.specs.Step.{Stepped, refused, full, noneFree, wants, settledIf, settledFor, after, takeCell, doNew, doDeed, acted, run, step, calls, unfreed, batch}
 use Rattle.rules.proofs.Lists.{map-set}
 

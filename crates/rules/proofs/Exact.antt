@@ -11,8 +11,9 @@ use lib.ListN.{length, getD, set}
 use borrow.Author.Tests.{eqb-true, eqb-false}
 use Rattle.rules.specs.declared.Field.{Field}
 use Rattle.rules.specs.declared.Field.the-variants.{Nothing, Figure, Cell, Free}
-use Rattle.rules.specs.Rules.{Tables, Transaction, creates, destroys, apply, replay}
-use Rattle.rules.specs.Settle.{drops}
+use Rattle.rules.specs.Heap.{Tables, Transaction, creates, destroys}
+use Rattle.rules.specs.Rules.{apply, replay}
+use Rattle.rules.specs.Call.{drops}
 use Rattle.rules.specs.Invariant.{hit, refs, count, named, Counted}
 use Rattle.rules.proofs.Tables.{view-other, up, down, count-create, count-destroy, ok-at-create, ok-at-destroy}
 

@@ -19,7 +19,8 @@ use Rattle.rules.specs.declared.Call.the-variants.{New, Do, Settle}
 use Rattle.rules.specs.declared.Sizes.{Sizes}
 use Rattle.rules.specs.Table.{has}
 use Rattle.rules.specs.Rules.{replay}
-use Rattle.rules.specs.Settle.{Shape, Heap, holds, pick, place, field, reclaim, replayed, settledBy, settled}
+use Rattle.rules.specs.Heap.{Shape, Heap, place, field}
+use Rattle.rules.specs.Settle.{holds, pick, reclaim, replayed, settledBy, settled}
 use Rattle.rules.specs.Call.{Answer, InRange, Fits, AllFit, unless, var, at, isHeld, isCell, isFigure, want, refuses, check, hold}
 use Rattle.rules.specs.Demands.{isNew}
 use Rattle.rules.specs.Step.{Stepped, refused, settledIf, full, noneFree, takeCell, doNew, run, step, calls, batch, wants, counted, settledFor, doDeed, acted, unfreed}

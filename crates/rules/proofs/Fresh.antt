@@ -11,7 +11,8 @@ use borrow.Author.Tests.{eqb-true, eqb-false, ne-eqb}
 use Rattle.rules.specs.declared.Field.the-variants.{Nothing, Free}
 use Rattle.rules.specs.declared.Sizes.{Sizes}
 use Rattle.rules.specs.Rules.{replay}
-use Rattle.rules.specs.Settle.{holds, place, field}
+use Rattle.rules.specs.Settle.{holds}
+use Rattle.rules.specs.Heap.{place, field}
 use Rattle.rules.specs.Step.{fresh, freeFrom}
 use Rattle.rules.specs.Sound.{times}
 use Rattle.rules.specs.Invariant.{refs, used, live, view, Chain, Fitting, Inv, Ended}

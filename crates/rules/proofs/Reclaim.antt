@@ -8,7 +8,8 @@ use native.Mathlib.Omega.{arith}
 use lib.Dec.{eqb}
 use borrow.Author.Tests.{eqb-true, eq-eqb}
 use Rattle.rules.specs.Table.{has, Ascending}
-use Rattle.rules.specs.Settle.{Heap, holds, pick, onPick, freeCell, reclaim}
+use Rattle.rules.specs.Heap.{Heap}
+use Rattle.rules.specs.Settle.{holds, pick, onPick, freeCell, reclaim}
 use Rattle.rules.specs.Whole.{Kept}
 use Rattle.rules.specs.Invariant.{live, Good, Done}
 use Rattle.rules.proofs.Sorted.{all-has}

@@ -14,8 +14,7 @@ use Rattle.rules.specs.declared.Field.the-variants.{Nothing, Figure, Cel
 use Rattle.rules.specs.declared.Sizes.{Sizes}
 use Rattle.rules.specs.Field.{kindOf, valueOf, fieldOf, variableOf, heldOf}
 use Rattle.rules.specs.Table.{Entry, addresses, counts, pad, Above, Below, Ascending}
-use Rattle.rules.specs.Rules.{Transaction, allocates, creates, destroys}
-use Rattle.rules.specs.Settle.{Heap, place, field}
+use Rattle.rules.specs.Heap.{Transaction, allocates, creates, destroys, Heap, place, field}
 use Rattle.rules.specs.Step.{batch}
 use Rattle.rules.specs.Rows.{Lent, words, rowsOf, headOf, fieldsOf, entriesOf, heapOf}
 use Rattle.rules.specs.Sound.{Word, Variable, ZeroFrom, Sound, Sized}

@@ -11,7 +11,7 @@ use lib.ListN.{length}
 use Rattle.rules.specs.declared.Call.{Call}
 use Rattle.rules.specs.declared.Sizes.{Sizes}
 use Rattle.rules.specs.Head.{freshHead, zeroHead, Limits}
-use Rattle.rules.specs.Settle.{Heap}
+use Rattle.rules.specs.Heap.{Heap}
 use Rattle.rules.specs.Call.{callsIn}
 use Rattle.rules.specs.Step.{batch, fresh}
 use Rattle.rules.specs.Rows.{Lent, rowsOf, headOf}

@@ -13,7 +13,7 @@ use Rattle.rules.specs.declared.Field.{Field}
 use Rattle.rules.specs.declared.Field.the-variants.{Nothing, Figure, Cell, Free}
 use Rattle.rules.specs.declared.Deed.{Deed}
 use Rattle.rules.specs.declared.Deed.the-variants.{Copy, Clear, Link, Put, Blank, Follow, Read, Same}
-use Rattle.rules.specs.Settle.{Shape, place, field, store}
+use Rattle.rules.specs.Heap.{Shape, place, field, store}
 use Rattle.rules.specs.Call.{InRange, var, at, isHeld, isCell, isFigure, want, refuses, write, hold, toCell, target, act, figureOf, sameCell, value}
 use Rattle.rules.proofs.Cells.{length-store, field-other, field-same, field-across}
 use Rattle.rules.proofs.Calls.{held-11, two-11}

@@ -7,7 +7,8 @@ use native.Mathlib.Omega.{arith}
 use lib.Dec.{eqb, ltb}
 use borrow.Author.Tests.{eqb-true, eqb-false, ltb-true, ltb-false}
 use Rattle.rules.specs.Table.{Entry, entry, has, insert, remove, countIn, enter, delete, addresses, counts, All, Ascending}
-use Rattle.rules.specs.Rules.{Tables, Transaction, allocates, creates, destroys, enterZct, leaveZct, enterMrt, leaveMrt, onCreate, onDestroy, apply, replay}
+use Rattle.rules.specs.Heap.{Tables, Transaction, allocates, creates, destroys}
+use Rattle.rules.specs.Rules.{enterZct, leaveZct, enterMrt, leaveMrt, onCreate, onDestroy, apply, replay}
 use Rattle.rules.specs.Whole.{Kept}
 use Rattle.rules.specs.Invariant.{named, Small}
 

@@ -15,8 +15,9 @@ use Rattle.rules.specs.declared.Deed.the-variants.{Copy, Clear, Link, Pu
 use Rattle.rules.specs.declared.Call.{Call}
 use Rattle.rules.specs.declared.Call.the-variants.{New, Do, Settle}
 use Rattle.rules.specs.declared.Sizes.{Sizes}
-use Rattle.rules.specs.Rules.{Tables, allocates, apply, replay}
-use Rattle.rules.specs.Settle.{Shape, Heap, holds, place, store, freeCell, replayed, settledBy, settled}
+use Rattle.rules.specs.Heap.{Tables, allocates, Shape, Heap, place, store}
+use Rattle.rules.specs.Rules.{apply, replay}
+use Rattle.rules.specs.Settle.{holds, freeCell, replayed, settledBy, settled}
 use Rattle.rules.specs.Call.{var, check, logs, hold, Fits, AllFit, InRange, unless, refuses}
 use Rattle.rules.specs.Step.{refused, settledIf, full, noneFree, takeCell, doNew, run, step, calls, batch, needs, wants, settledFor, doDeed, acted, unfreed}
 use Rattle.rules.specs.Whole.{Kept}

@@ -7,7 +7,8 @@ use native.Mathlib.Omega.{arith}
 use lib.Dec.{eqb, ltb}
 use borrow.Author.Tests.{eqb-true, eqb-false, eq-eqb, ne-eqb}
 use Rattle.rules.specs.Table.{Entry, entry, has, insert, remove, countIn, enter, delete}
-use Rattle.rules.specs.Rules.{Tables, Transaction, allocates, creates, destroys, enterZct, leaveZct, enterMrt, leaveMrt, onCreate, onDestroy, apply}
+use Rattle.rules.specs.Heap.{Tables, Transaction, allocates, creates, destroys}
+use Rattle.rules.specs.Rules.{enterZct, leaveZct, enterMrt, leaveMrt, onCreate, onDestroy, apply}
 use Rattle.rules.specs.Invariant.{View, view, countOf, countV, count, okOf, okV, named}
 
 pub eqb-self : (a : ℕ) → eqb a a ≡ true

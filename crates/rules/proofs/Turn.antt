@@ -12,8 +12,10 @@ use borrow.Author.Tests.{eqb-true}
 use Rattle.rules.specs.declared.Field.{Field}
 use Rattle.rules.specs.declared.Field.the-variants.{Nothing, Free}
 use Rattle.rules.specs.Table.{has, countIn}
-use Rattle.rules.specs.Rules.{Tables, leaveZct}
-use Rattle.rules.specs.Settle.{Heap, drops, holds, place, field, store, freeCell}
+use Rattle.rules.specs.Heap.{Tables, Heap, place, field, store}
+use Rattle.rules.specs.Rules.{leaveZct}
+use Rattle.rules.specs.Call.{drops}
+use Rattle.rules.specs.Settle.{holds, freeCell}
 use Rattle.rules.specs.Whole.{Kept}
 use Rattle.rules.specs.Invariant.{count, hit, refs, live, view, okOf, Counted, Good, Small}
 use Rattle.rules.proofs.Tables.{remove-own, remove-other}

@@ -14,8 +14,7 @@ use Rattle.rules.specs.declared.Sizes.{Sizes}
 use Rattle.rules.specs.declared.Field.{Field}
 use Rattle.rules.specs.Field.{variableOf, heldOf}
 use Rattle.rules.specs.Table.{counts, pad}
-use Rattle.rules.specs.Rules.{Tables, Transaction, allocates, creates, destroys}
-use Rattle.rules.specs.Settle.{Heap}
+use Rattle.rules.specs.Heap.{Tables, Transaction, allocates, creates, destroys, Heap}
 use Rattle.rules.specs.Rows.{TableRows, Lent, tableRows, words, fieldsOf, tablesOf}
 use Rattle.rules.specs.Whole.{Is, Are, Cells, Logged, Whole}
 use Rattle.rules.proofs.Roundtrip.{fields-back, variables-back, entries-back, take-pad, length-words}

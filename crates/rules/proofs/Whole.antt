@@ -15,8 +15,7 @@ use Rattle.rules.specs.declared.Field.{Field}
 use Rattle.rules.specs.declared.Field.the-variants.{Nothing, Figure, Cell, Free}
 use Rattle.rules.specs.declared.Sizes.{Sizes}
 use Rattle.rules.specs.Table.{addresses, counts, pad}
-use Rattle.rules.specs.Rules.{Transaction, allocates, creates, destroys}
-use Rattle.rules.specs.Settle.{Heap, place, field}
+use Rattle.rules.specs.Heap.{Transaction, allocates, creates, destroys, Heap, place, field}
 use Rattle.rules.specs.Rows.{Lent, lent, words, rowsOf, headOf, heapOf}
 use Rattle.rules.specs.Refusals.{cleared}
 use Rattle.rules.specs.Whole.{Inside, Logged, Whole, startOf}

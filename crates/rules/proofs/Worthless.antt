@@ -17,6 +17,7 @@ use Rattle.rules.proofs.Tests.{sized-true, sound-true}
 use Rattle.rules.specs.Rows as R
 use Rattle.rules.specs.Rules as U
 use Rattle.rules.specs.Settle as S
+use Rattle.rules.specs.Heap as H
 use Rattle.rules.specs.Call as C
 use Rattle.rules.specs.Step as T
 use Rattle.rules.specs.Refusals as F
@@ -84,7 +85,7 @@ record Computed : Type 0 where
   count-calls : C.callsIn 1 [] ≡ some []
 
 computed : Computed
-unfolding F.isSized F.isSound sound? sized? dec-word Word F.batchOf F.checkCalls F.checkAnswers F.checkSound F.accepted F.answered R.rowsOf R.headOf R.heapOf C.callOf C.callsOf C.callsIn U.enterZct U.leaveZct U.enterMrt U.leaveMrt U.onCreate U.onDestroy U.apply U.replay S.place S.field S.store S.freeCell S.reclaim S.replayed S.settledBy S.settled C.var C.at C.refuses C.logs C.write C.hold C.act C.value T.full T.noneFree T.wants T.settledIf T.takeCell T.doNew T.doDeed T.acted T.run T.step T.calls T.batch T.freeFrom T.fresh N.runFrom N.runOf N.saidIn E.endless E.endlessRun E.endlessStep F.freshOf
+unfolding F.isSized F.isSound sound? sized? dec-word Word F.batchOf F.checkCalls F.checkAnswers F.checkSound F.accepted F.answered R.rowsOf R.headOf R.heapOf C.callOf C.callsOf C.callsIn U.enterZct U.leaveZct U.enterMrt U.leaveMrt U.onCreate U.onDestroy U.apply U.replay H.place H.field H.store S.freeCell S.reclaim S.replayed S.settledBy S.settled C.var C.at C.refuses C.logs C.write C.hold C.act C.value T.full T.noneFree T.wants T.settledIf T.takeCell T.doNew T.doDeed T.acted T.run T.step T.calls T.batch T.freeFrom T.fresh N.runFrom N.runOf N.saidIn E.endless E.endlessRun E.endlessStep F.freshOf
 computed =
     record {
       says-14 = refl;

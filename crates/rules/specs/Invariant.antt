@@ -12,8 +12,9 @@ use Rattle.rules.specs.declared.Field.the-variants.{Nothing, Figure, Cel
 use Rattle.rules.specs.declared.Sizes.{Sizes}
 use Rattle.rules.specs.Field.{Signed32}
 use Rattle.rules.specs.Table.{has, countIn}
-use Rattle.rules.specs.Rules.{Tables, Transaction, allocates, creates, destroys, replay}
-use Rattle.rules.specs.Settle.{Heap, holds, pick, place, field}
+use Rattle.rules.specs.Heap.{Tables, Transaction, allocates, creates, destroys, Heap, place, field}
+use Rattle.rules.specs.Rules.{replay}
+use Rattle.rules.specs.Settle.{holds, pick}
 use Rattle.rules.specs.Whole.{Kept}
 use Rattle.rules.specs.Sound.{times}
 

@@ -1,16 +1,18 @@
--- Document 01 as definitions, in its order: read these beside it. After Run: the letter, and what shows that its statements have teeth.
+-- Document 01 as definitions, in its order: read these beside it. Lending: the rows as a contract names them. Invariant: what holds in the middle of a
+-- batch. Decide: that soundness is decided. After Run: the letter, and what shows that its statements have teeth.
 pub mod Head
 pub mod Field
 pub mod Table
+pub mod Heap
+pub mod Rows
+pub mod Call
 pub mod Rules
 pub mod Settle
-pub mod Call
 pub mod Step
-pub mod Rows
 pub mod Whole
 pub mod Lending
-pub mod Sound
 pub mod Invariant
+pub mod Sound
 pub mod Decide
 pub mod Refusals
 pub mod Endless

@@ -9,8 +9,7 @@ use Rattle.rules.specs.declared.Field.{Field}
 use Rattle.rules.specs.declared.Sizes.{Sizes}
 use Rattle.rules.specs.Field.{kindOf, valueOf, fieldOf, variableOf, heldOf}
 use Rattle.rules.specs.Table.{Entry, entry, addresses, counts, pad}
-use Rattle.rules.specs.Rules.{Tables, Transaction, allocates, creates, destroys}
-use Rattle.rules.specs.Settle.{Heap}
+use Rattle.rules.specs.Heap.{Tables, Transaction, allocates, creates, destroys, Heap}
 
 -- the rows of the two tables: addresses of ZCT; addresses of MRT, and the counts beside them
 pub record TableRows : Type 0 where

@@ -3,16 +3,8 @@ use Prim.Native.Nat.{ℕ, zero, suc}
 use mathlib.Core.Bool.{Bool, true, false, cond}
 use mathlib.Core.List.{List, [], _∷_}
 use lib.Dec.{eqb}
-use Rattle.rules.specs.Table.{Entry, has, insert, remove, countIn, enter, delete}
-
--- the zero count table and the multireference table
-pub record Tables : Type 0 where
-  pub zct : List ℕ
-  pub mrt : List Entry
-
--- an entry of the log
-pub data Transaction : Type 0 where
-  allocates creates destroys : ℕ → Transaction
+use Rattle.rules.specs.Table.{has, insert, remove, countIn, enter, delete}
+use Rattle.rules.specs.Heap.{Tables, Transaction, allocates, creates, destroys}
 
 unfoldable pub enterZct : ℕ → Tables → Tables
 enterZct a t = record { zct = insert a (t .zct); mrt = t .mrt }

@@ -12,8 +12,8 @@ use Rattle.rules.specs.declared.Deed.{Deed}
 use Rattle.rules.specs.declared.Call.{Call}
 use Rattle.rules.specs.declared.Call.the-variants.{New, Do, Settle}
 use Rattle.rules.specs.declared.Sizes.{Sizes}
-use Rattle.rules.specs.Rules.{allocates}
-use Rattle.rules.specs.Settle.{Shape, Heap, field, store, settledBy, settled}
+use Rattle.rules.specs.Heap.{allocates, Shape, Heap, field, store}
+use Rattle.rules.specs.Settle.{settledBy, settled}
 use Rattle.rules.specs.Call.{Answer, answer, unless, check, logs, act, value, hold}
 
 -- a heap and the answer that a call gave

@@ -14,8 +14,7 @@ use Rattle.rules.specs.declared.Sizes.{Sizes}
 use Rattle.rules.specs.Head.{Limits}
 use Rattle.rules.specs.Field.{kindOf, valueOf, variableOf}
 use Rattle.rules.specs.Table.{addresses, counts, pad, All, Below, Ascending}
-use Rattle.rules.specs.Rules.{Tables, Transaction}
-use Rattle.rules.specs.Settle.{Heap}
+use Rattle.rules.specs.Heap.{Tables, Transaction, Heap}
 use Rattle.rules.specs.Rows.{TableRows, HeapRows, Lent, heapRows, words}
 
 -- a row of n is the list z, and its used length is z's

@@ -8,7 +8,8 @@ use lib.IntN.{ℤ, pos}
 use Rattle.rules.specs.declared.Head.{Head}
 use Rattle.rules.specs.declared.Call.{Call}
 use Rattle.rules.specs.declared.Sizes.{Sizes}
-use Rattle.rules.specs.Settle.{Heap, replayed}
+use Rattle.rules.specs.Heap.{Heap}
+use Rattle.rules.specs.Settle.{replayed}
 use Rattle.rules.specs.Call.{answer, callsIn}
 use Rattle.rules.specs.Step.{Result, step}
 use Rattle.rules.specs.Rows.{Lent, rowsOf, headOf, heapOf}

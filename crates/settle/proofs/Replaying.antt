@@ -6,7 +6,8 @@ use native.Mathlib.Omega.{arith}
 use lib.ListN.{length, drop, getD, drop-of-length-le}
 use borrow.Author.Tests.{eq-eqb, ne-eqb}
 use Rattle.rules.specs.declared.Used.{Used}
-use Rattle.rules.specs.Rules.{Tables, Transaction, allocates, creates, destroys, apply, replay}
+use Rattle.rules.specs.Heap.{Tables, Transaction, allocates, creates, destroys}
+use Rattle.rules.specs.Rules.{apply, replay}
 use Rattle.rules.specs.Rows.{TableRows}
 use Rattle.rules.specs.Whole.{Ready, Logged}
 use Rattle.tables.specs.Row.{TablesBy}

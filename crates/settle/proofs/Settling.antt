@@ -12,14 +12,15 @@ use Rattle.rules.specs.declared.State.{State}
 use Rattle.rules.specs.declared.Sizes.{Sizes}
 use Rattle.rules.specs.Field.{variableOf}
 use Rattle.rules.specs.Rules.{replay}
-use Rattle.rules.specs.Settle.{Heap, replayed, settledBy, settled}
+use Rattle.rules.specs.Heap.{Heap}
+use Rattle.rules.specs.Settle.{replayed, settledBy, settled}
 use Rattle.rules.specs.Step.{settledIf}
 use Rattle.rules.specs.Rows.{TableRows, HeapRows, Lent, heapRows}
 use Rattle.rules.specs.Whole.{Ready, Rows, Whole}
 use Rattle.rules.proofs.Step.{settledBy-log, settledBy-variables}
 use Rattle.cells.specs.Marks.{Marks}
 use Rattle.cells.proofs.Logging.{logged-none}
-use Rattle.reclaim.specs.Reclaiming.{Reclaimable, Done, Reclaims}
+use Rattle.reclaim.specs.Reclaiming.{Reclaimable, Reclaims}
 use Rattle.settle.specs.Replaying.{Replays}
 use Rattle.settle.specs.Settling.{holding, Settleable, Settled, Settles, RoomMade, MakesRoom}
 

@@ -3,7 +3,8 @@ use Prim.Native.Nat.{ℕ, _≤_}
 use mathlib.Core.List.{List}
 use lib.ListN.{length}
 use Rattle.rules.specs.declared.Used.{Used}
-use Rattle.rules.specs.Rules.{Tables, Transaction, replay}
+use Rattle.rules.specs.Heap.{Tables, Transaction}
+use Rattle.rules.specs.Rules.{replay}
 use Rattle.rules.specs.Rows.{TableRows}
 use Rattle.rules.specs.Whole.{Ready, Logged}
 

@@ -9,7 +9,8 @@ use lib.IntN.{ℤ}
 use Rattle.rules.specs.declared.Sizes.{Sizes}
 use Rattle.rules.specs.declared.State.{State}
 use Rattle.rules.specs.Field.{variableOf}
-use Rattle.rules.specs.Settle.{Heap, settledBy}
+use Rattle.rules.specs.Heap.{Heap}
+use Rattle.rules.specs.Settle.{settledBy}
 use Rattle.rules.specs.Step.{settledIf}
 use Rattle.rules.specs.Rows.{Lent}
 use Rattle.rules.specs.Whole.{Whole}

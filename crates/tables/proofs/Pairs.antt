@@ -10,7 +10,8 @@ use lib.Seq.{length-take-le, getD-take, set-getD}
 use lib.Dec.{eqb}
 use borrow.Author.Tests.{eqb-true, eqb-false, ne-eqb, eq-eqb}
 use Rattle.rules.specs.Table.{Entry, has, enter, delete, countIn, addresses, pad, Ascending}
-use Rattle.rules.specs.Rules.{Tables, enterMrt, leaveMrt, onCreate, onDestroy}
+use Rattle.rules.specs.Heap.{Tables}
+use Rattle.rules.specs.Rules.{enterMrt, leaveMrt, onCreate, onDestroy}
 use Rattle.tables.specs.Row.{place, put, cut, Moved, Listed, Counted, Pair}
 use Rattle.rules.proofs.Positions.{all-at}
 use Rattle.tables.proofs.Places.{count-none, count-there, there-addresses, there-counts, cut-addresses, cut-counts, put-addresses, put-counts}

@@ -10,7 +10,8 @@ use lib.Seq.{getD-take}
 use lib.Dec.{eqb}
 use Rattle.rules.specs.declared.Used.{Used}
 use Rattle.rules.specs.Table.{has, insert, remove, countIn, addresses, pad}
-use Rattle.rules.specs.Rules.{Tables, Transaction, allocates, creates, destroys, enterZct, leaveZct, enterMrt, leaveMrt, onCreate, onDestroy, apply}
+use Rattle.rules.specs.Heap.{Tables, Transaction, allocates, creates, destroys}
+use Rattle.rules.specs.Rules.{enterZct, leaveZct, enterMrt, leaveMrt, onCreate, onDestroy, apply}
 use Rattle.rules.specs.Rows.{TableRows, tableRows}
 use Rattle.rules.specs.Whole.{Is, Kept, Ready}
 use Rattle.rules.specs.Invariant.{named}

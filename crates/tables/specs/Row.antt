@@ -7,7 +7,7 @@ use lib.Dec.{ltb}
 use lib.ListN.{length, take, drop}
 use Rattle.rules.specs.declared.Used.{Used}
 use Rattle.rules.specs.Table.{Entry, addresses, counts, pad, All, Below, Ascending}
-use Rattle.rules.specs.Rules.{Tables}
+use Rattle.rules.specs.Heap.{Tables}
 use Rattle.rules.specs.Rows.{TableRows, tableRows}
 use Rattle.rules.specs.Whole.{Is, Ready}
 

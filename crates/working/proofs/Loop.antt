@@ -15,7 +15,8 @@ use Rattle.rules.specs.declared.Call.{Call}
 use Rattle.rules.specs.declared.Outcome.{Outcome}
 use Rattle.rules.specs.declared.Call.the-variants.{Settle}
 use Rattle.rules.specs.declared.Sizes.{Sizes}
-use Rattle.rules.specs.Settle.{Heap, settled}
+use Rattle.rules.specs.Heap.{Heap}
+use Rattle.rules.specs.Settle.{settled}
 use Rattle.rules.specs.Call.{Answer, Fits, AllFit, callsOf, callsIn}
 use Rattle.rules.specs.Step.{settledIf, step, calls}
 use Rattle.rules.specs.Rows.{Lent, lent, rowsOf}
@@ -27,11 +28,11 @@ use Rattle.rules.proofs.Whole.{rows-all, head-is}
 use Rattle.cells.proofs.Storing.{cell-lengths}
 use Rattle.words.specs.Words.{callAt}
 use Rattle.words.proofs.Listing.{listed}
-use Rattle.reclaim.specs.declared.Reclaimed.{Reclaimed}
 use Rattle.settle.specs.Settling.{Settled}
-use Rattle.working.specs.declared.State.{State}
 use Rattle.working.specs.Working.{Standing, Turnable, Turned, Runnable, Ran, Endable, Finished, Batched}
 use Rattle.working.proofs.Steps.{few-freed}
+use Rattle.reclaim.specs.declared.Reclaimed.{Reclaimed}
+use Rattle.working.specs.declared.State.{State}
 
 -- ---- lengths
 

@@ -12,7 +12,8 @@ use lib.Seq.{getD-take, getD-drop}
 use Rattle.rules.specs.declared.Call.{Call}
 use Rattle.rules.specs.declared.Call.the-variants.{New, Do, Settle}
 use Rattle.rules.specs.declared.Sizes.{Sizes}
-use Rattle.rules.specs.Settle.{Shape, Heap, settled}
+use Rattle.rules.specs.Heap.{Shape, Heap}
+use Rattle.rules.specs.Settle.{settled}
 use Rattle.rules.specs.Call.{Fits, check}
 use Rattle.rules.specs.Step.{Stepped, refused, needs, full, noneFree, wants, settledIf, takeCell, doNew, doDeed, acted, run, step}
 use Rattle.before.specs.Seen.{Shown, Reaches}

@@ -9,16 +9,17 @@ use Rattle.rules.specs.declared.Head.{Head}
 use Rattle.rules.specs.declared.Call.{Call}
 use Rattle.rules.specs.declared.Outcome.{Outcome}
 use Rattle.rules.specs.declared.Sizes.{Sizes}
-use Rattle.rules.specs.Settle.{Heap, settled}
+use Rattle.rules.specs.Heap.{Heap}
+use Rattle.rules.specs.Settle.{settled}
 use Rattle.rules.specs.Call.{Fits, callsIn}
 use Rattle.rules.specs.Step.{calls}
-use Rattle.rules.specs.Step as rules
 use Rattle.rules.specs.Rows.{Lent, rowsOf, headOf}
 use Rattle.rules.specs.Whole.{Whole}
 use Rattle.rules.specs.Refusals.{outcome, answered}
 use Rattle.rules.specs.Invariant.{Inv}
 use Rattle.rules.proofs.Fine.{Fine}
 use Rattle.words.specs.Words.{callAt}
+use Rattle.rules.specs.Step as rules
 use Rattle.calls.specs.declared.Acted.{Acted}
 use Rattle.settle.specs.declared.Room.{Room}
 use Rattle.working.specs.declared.State.{State}

@@ -6,7 +6,7 @@ ghost use Prim.Native.Nat.{_+_, _*_, _≤_};
 ghost use lib.ListN.{length};
 ghost use Rattle.rules.specs.declared.Call.{Call};
 ghost use Rattle.rules.specs.declared.Sizes.{Sizes};
-ghost use Rattle.rules.specs.Settle.{Heap};
+ghost use Rattle.rules.specs.Heap.{Heap};
 ghost use Rattle.rules.specs.Call.{callsIn};
 ghost use Rattle.rules.specs.Step.{needs, wants, step as stepped};
 ghost use Rattle.rules.specs.Rows.{lent};

@@ -2,8 +2,7 @@ use mathlib.Core.Path.{_∙_, ap}
 use native.Mathlib.Omega.{arith}
 use lib.ListN.{length, length-append}
 use Rattle.rules.specs.declared.Field.{Field}
-use Rattle.rules.specs.Settle.{drops}
-use Rattle.rules.specs.Call.{var}
+use Rattle.rules.specs.Call.{drops, var}
 use borrow.Author.Needs.{needs}
 use Rattle.before.proofs.need_link.Statement.{statement}
 use Rattle.before.proofs.need_link.Tie as tie

@@ -1,7 +1,7 @@
 use mathlib.Core.Path.{_∙_, ap}
 use lib.ListN.{length}
 use Rattle.rules.specs.declared.Field.{Field}
-use Rattle.rules.specs.Settle.{drops}
+use Rattle.rules.specs.Call.{drops}
 use borrow.Author.Needs.{needs}
 use Rattle.before.proofs.need_store.Statement.{statement}
 use Rattle.before.proofs.need_store.Tie as tie

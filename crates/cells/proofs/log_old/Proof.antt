@@ -1,6 +1,5 @@
 -- `cells::log_old` meets its contract: an entry where the field is a cell, else the log as it was. Assumes nothing.
 use native.Mathlib.Omega.{arith}
-use Rattle.rules.specs.Settle.{drops}
 use Rattle.cells.specs.Log.{transaction}
 use Rattle.cells.proofs.Logging.{logged-same}
 use borrow.Author.Needs.{needs}

@@ -1,11 +1,11 @@
 use Rattle.rules.proofs.Answers.{is, isn't, refused, passed}
+use Rattle.rules.specs.Rows.{tableRows}
+use Rattle.checks.specs.Counts.{tallied}
+use Rattle.checks.proofs.Steps.{Gone, gone-none, turn-zct, turn-mrt, turn-one, agreed, lonely, both, busy, wrong}
 use native.Mathlib.Omega.{arith}
 use borrow.Author.Needs.{needs}
 use mathlib.Core.Logic.{⊎-elim}
 use Prim.Native.Nat.{_-_}
-use Rattle.rules.specs.Rows.{tableRows}
-use Rattle.checks.specs.Counts.{tallied}
-use Rattle.checks.proofs.Steps.{Gone, gone-none, turn-zct, turn-mrt, turn-one, agreed, lonely, both, busy, wrong}
 use Rattle.checks.proofs.compare.Statement.{statement}
 use Rattle.checks.proofs.compare.Tie as tie
 

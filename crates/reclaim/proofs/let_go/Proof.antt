@@ -1,7 +1,6 @@
 -- `settle::let_go` meets its contract: a destroy for a cell, and nothing for any other field. Assumes nothing.
 use native.Mathlib.Omega.{arith}
 use Rattle.rules.specs.Rules.{replay}
-use Rattle.rules.specs.Settle.{drops}
 use Rattle.reclaim.proofs.Freeing.{cell-inside, let-go}
 use borrow.Author.Needs.{needs}
 use Rattle.reclaim.proofs.let_go.Statement.{statement}

@@ -6,7 +6,7 @@ use borrow.Author.Needs.{needs}
 use Prim.Native.Nat.{ℕ, _≤_, _-_, zero-le}
 use lib.ListN.{length}
 use lib.IntN.{ℤ}
-use Rattle.rules.specs.Settle.{Heap}
+use Rattle.rules.specs.Heap.{Heap}
 use Rattle.rules.specs.Rows.{HeapRows, tableRows}
 use Rattle.rules.specs.Whole.{Rows}
 use Rattle.cells.specs.Marks.{Marks}

@@ -1,10 +1,10 @@
 -- `settle::release` meets its contract: out of ZCT, then both fields let go in their order. Assumes nothing.
 use mathlib.Core.Path.{sym, _∙_}
 use Rattle.rules.proofs.Sorted.{replay-append}
-use borrow.Author.Needs.{needs}
 use Rattle.tables.proofs.Single.{is-padded}
 use Rattle.tables.proofs.Steps.{left, tabled}
 use Rattle.reclaim.proofs.Freeing.{inside-as}
+use borrow.Author.Needs.{needs}
 use Rattle.reclaim.proofs.release.Statement.{statement}
 use Rattle.reclaim.proofs.release.Tie as tie
 

@@ -3,13 +3,13 @@ use mathlib.Core.Path.{sym, _∙_}
 use mathlib.Core.List.{List}
 use Prim.Native.Nat.{ℕ, _-_, _≤_, zero-le}
 use native.Mathlib.Omega.{arith}
-use Rattle.rules.specs.Rules.{Tables, Transaction}
-use borrow.Author.Needs.{needs}
-use lib.ListN.{length}
+use Rattle.rules.specs.Heap.{Tables, Transaction}
 use Rattle.rules.specs.Rows.{tableRows}
 use Rattle.rules.specs.Whole.{Ready, Logged}
 use Rattle.tables.proofs.Steps.{tabled}
 use Rattle.settle.proofs.Replaying.{Replaying, replaying-first, replaying-next, replaying-done, entry-small}
+use borrow.Author.Needs.{needs}
+use lib.ListN.{length}
 use Rattle.settle.proofs.replay.Statement.{statement}
 use Rattle.settle.proofs.replay.Tie as tie
 
