@@ -3,7 +3,7 @@ use mathlib.Core.Path.{_≡_, refl, sym, ap, _∙_}
 use mathlib.Core.Bool.{Bool, true, false, cond}
 use mathlib.Core.Option.{Option, none, some}
 use mathlib.Core.List.{List, [], _∷_, _++_, append-assoc}
-use Prim.Native.Nat.{ℕ, zero, suc, _+_, _*_, _≤_, _<_}
+use Prim.Native.Nat.{ℕ, _+_, _*_, _≤_, _<_}
 use native.Mathlib.Omega.{arith}
 use lib.Dec.{ltb}
 use borrow.Author.Tests.{lt-ltb, le-ltb, ltb-true, eq-eqb, ne-eqb}
@@ -23,27 +23,20 @@ use Rattle.rules.specs.Whole.{Inside, Cells, Logged, Whole}
 use Rattle.cells.specs.Leaves.{heldAs}
 use Rattle.cells.specs.Log.{transaction}
 use Rattle.cells.specs.Free.{Taken}
-use Rattle.cells.proofs.Storing.{map-set, inside-more, cell-lengths, read-inside, stored-at}
+use Rattle.rules.proofs.Lists.{map-set, set-each}
+use Rattle.cells.proofs.Storing.{inside-more, cell-lengths, read-inside, stored-at}
 use Rattle.before.specs.Seen.{Held, Shown}
 use Rattle.calls.specs.Doing.{worked, Did, Does, Wrote, Writes, Writable}
 use Rattle.before.proofs.Seeing.{held-is, held-some, held-none, held-test, at-some}
 
 -- ---- a variable
 
-inside-set : (n : ℕ) (hs : List (Option ℕ)) (v : ℕ) (o : Option ℕ) → ((a : ℕ) → o ≡ some a → a < n) → ((w a : ℕ) → getD hs w none ≡ some a → a < n)
-    → (w a : ℕ) → getD (set hs v o) w none ≡ some a → a < n
-inside-set n [] v o I A w a e = A w a e
-inside-set n (x ∷ hs) zero o I A zero a e = I a e
-inside-set n (x ∷ hs) zero o I A (suc w) a e = A (suc w) a e
-inside-set n (x ∷ hs) (suc v) o I A zero a e = A zero a e
-inside-set n (x ∷ hs) (suc v) o I A (suc w) a e = inside-set n hs v o I (λ k. A (suc k)) w a e
-
 pub held-set : {n : ℕ} {vs vs′ : List ℤ} {hs : List (Option ℕ)} (v : ℕ) (o : Option ℕ) → Held n vs hs → ((a : ℕ) → o ≡ some a → a < n)
     → vs′ ≡ set vs v (variableOf o) → Held n vs′ (set hs v o)
 held-set {n} {hs = hs} v o H I e =
     record {
       are = e ∙ rw (H .are) (sym (map-set variableOf v o hs));
-      inside = inside-set n hs v o I (H .inside);
+      inside = λ w. set-each (λ q. (a : ℕ) → q ≡ some a → a < n) hs v w o none I (H .inside w);
     }
 
 pub copied : {n : ℕ} {vs vs′ : List ℤ} {hs : List (Option ℕ)} (v w r : ℕ) → w < length vs → Held n vs hs

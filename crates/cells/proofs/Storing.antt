@@ -1,7 +1,7 @@
 -- Laws of the rows of kinds and values as fields: a read, a store, the free list. Assumes nothing.
-use mathlib.Core.Path.{_≡_, refl, sym, ap, _∙_}
-use mathlib.Core.List.{List, [], _∷_, map}
-use Prim.Native.Nat.{ℕ, zero, suc, _+_, _*_, _≤_}
+use mathlib.Core.Path.{_≡_, sym, ap, _∙_}
+use mathlib.Core.List.{List}
+use Prim.Native.Nat.{ℕ, _+_, _*_, _≤_}
 use native.Mathlib.Omega.{arith}
 use lib.ListN.{length, getD, set, length-set, length-map, List·getD-map}
 use lib.IntN.{ℤ, pos}
@@ -11,13 +11,9 @@ use Rattle.rules.specs.Field.{fieldOf, kindOf, valueOf}
 use Rattle.rules.specs.Settle.{place, field, store}
 use Rattle.rules.specs.Step.{after}
 use Rattle.rules.specs.Whole.{Inside, Cells}
+use Rattle.rules.proofs.Lists.{map-set, set-each}
 use Rattle.rules.proofs.Roundtrip.{field-back}
 use Rattle.cells.specs.Free.{Taken}
-
-pub map-set : {A B : Type 0} (f : A → B) (i : ℕ) (x : A) (l : List A) → map f (set l i x) ≡ set (map f l) i (f x)
-map-set f i x [] = refl
-map-set f zero x (y ∷ l) = refl
-map-set {B = B} f (suc i) x (y ∷ l) = ap (λ (l : List B). f y ∷ l) (map-set f i x l)
 
 -- a field of a heap of n is one of a larger heap
 pub inside-more : {n m : ℕ} (f : Field) → n ≤ m → Inside n f → Inside m f
@@ -37,13 +33,6 @@ module _ {n : ℕ} {ks : List ℕ} {xs : List ℤ} {fs : List Field} (C : Cells 
   pub read-inside : (f : Field) (i : ℕ) → f ≡ fieldOf (getD ks i 0) (getD xs i (pos 0)) → Inside n f
   read-inside f i e = rw (read f i e) (C .inside i)
 
-inside-set : (n : ℕ) (fs : List Field) (j : ℕ) (f : Field) → Inside n f → ((i : ℕ) → Inside n (getD fs i Nothing)) → (i : ℕ) → Inside n (getD (set fs j f) i Nothing)
-inside-set n [] j f I A i = A i
-inside-set n (g ∷ fs) zero f I A zero = I
-inside-set n (g ∷ fs) zero f I A (suc i) = A (suc i)
-inside-set n (g ∷ fs) (suc j) f I A zero = A zero
-inside-set n (g ∷ fs) (suc j) f I A (suc i) = inside-set n fs j f I (λ k. A (suc k)) i
-
 -- a store to both rows is a store to the fields
 pub stored : {n : ℕ} {ks ks′ : List ℕ} {xs xs′ : List ℤ} {fs : List Field} (j : ℕ) (f : Field) → Cells n ks xs fs → Inside n f
     → ks′ ≡ set ks j (kindOf f) → xs′ ≡ set xs j (valueOf f) → Cells n ks′ xs′ (set fs j f)
@@ -52,7 +41,7 @@ stored {n} {ks} {xs = xs} {fs = fs} j f C I e g =
       long = simp length-set (C .long);
       kinds = e ∙ rw (C .kinds) (sym (map-set kindOf j f fs));
       values = g ∙ rw (C .values) (sym (map-set valueOf j f fs));
-      inside = inside-set n fs j f I (C .inside);
+      inside = λ i. set-each (Inside n) fs j i f Nothing I (C .inside i);
     }
 
 -- the same at field f of cell a

@@ -180,7 +180,9 @@ module _ (h : Head) (ks : List ℕ) (t : TableRows) (count : ℕ → ℕ) where
 
     pub lonely : a < h .sizes .n → (InZct a z → ⊥) → (InMrt a q → ⊥) → (((mark ks a ≡ 3 → ⊥) → count a ≡ 1) → ⊥) → Agree h ks t count → ⊥
     lonely l d i k A =
-        k (λ u. A .one a (record { cell = l; used = u }) (out (h .sizes .n) ks (t .zct) (h .zct) (T .zct-row) a z (g .zplace) d) (out (h .sizes .n) ks (t .mrt) (h .mrt) (T .mrt-row) a q (g .qplace) i))
+        let no-zct = out (h .sizes .n) ks (t .zct) (h .zct) (T .zct-row) a z (g .zplace) d in
+        let no-mrt = out (h .sizes .n) ks (t .mrt) (h .mrt) (T .mrt-row) a q (g .qplace) i in
+        k (λ u. A .one a (record { cell = l; used = u }) no-zct no-mrt)
 
 -- tables that agree, at an address where both, or the count, say otherwise
 module _ {h : Head} {ks : List ℕ} {t : TableRows} {count : ℕ → ℕ} {a : ℕ} (z q : ℕ) (A : Agree h ks t count) where

@@ -112,7 +112,8 @@ module _ (n : ℕ) (ks : List ℕ) (vs : List ℤ) where
         ended (x ∷ r) c = absurd (let q = c .1 .0 in omega arith)
 
     -- the next address was read through its bits
-    pub turned : (at : ℕ) (work : List ℕ) → Met n ks vs first at work → at < n → mark ks at ≡ 3 → getD work at 0 ≡ 0 → (y : ℤ) → y ≡ getD vs (2 * at) (pos 0) → (t : ℕ) → t ≡ addressOf (n + 1) y → Met n ks vs first t (set work at 1)
+    pub turned : (at : ℕ) (work : List ℕ) → Met n ks vs first at work → at < n → mark ks at ≡ 3 → getD work at 0 ≡ 0
+        → (y : ℤ) → y ≡ getD vs (2 * at) (pos 0) → (t : ℕ) → t ≡ addressOf (n + 1) y → Met n ks vs first t (set work at 1)
     turned at work m h k z y b t e = rw (e, b) (turn at work m h k z)
 
     pub walked : (work : List ℕ) → Met n ks vs first n work → Walked true n ks vs first work

@@ -18,7 +18,8 @@ use Rattle.rules.specs.Whole.{Inside, Rows}
 use Rattle.tables.specs.Row.{TablesBy}
 use Rattle.cells.specs.Free.{FreedTo}
 use Rattle.rules.proofs.Unique.{is-take}
-use Rattle.tables.proofs.Single.{all-at, is-padded}
+use Rattle.rules.proofs.Positions.{all-at}
+use Rattle.tables.proofs.Single.{is-padded}
 use Rattle.cells.proofs.Storing.{inside-more, cell-lengths, read}
 use Rattle.reclaim.specs.Reclaiming.{lowTo, released, Freed}
 
@@ -57,7 +58,7 @@ module _ {n cap : ℕ} {r : HeapRows} {at : State} {h : Heap} (R : Rows n cap r 
       let I = R .ready .are .zct-is in
       let k = I .count in
       let g : getD (h .tables .zct) p 0 ≡ getD (r .tables .zct) p 0 = rw (← is-take I) (getD-take (at .used .zct) (r .tables .zct) p 0 l) in
-      rw g at (all-at (λ y. y < n) (h .tables .zct) p (R .ready .kept .zct-below) (omega arith))
+      rw g at (all-at (λ y. y < n) (h .tables .zct) (R .ready .kept .zct-below) p (omega arith))
 
   pub sized : Sized (r .kinds) (r .values) (r .tables .zct) (at .first) p
   sized =

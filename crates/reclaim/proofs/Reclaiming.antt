@@ -26,8 +26,9 @@ use Rattle.rules.proofs.Reclaim.{reclaim-last}
 use Rattle.rules.proofs.Unique.{is-take}
 use Rattle.tables.specs.Row.{place}
 use Rattle.tables.proofs.Laws.{place-upto, place-used}
-use Rattle.tables.proofs.Places.{has-place, has-at}
-use Rattle.tables.proofs.Single.{all-at, is-padded}
+use Rattle.rules.proofs.Positions.{has-at, all-at}
+use Rattle.tables.proofs.Places.{has-place}
+use Rattle.tables.proofs.Single.{is-padded}
 use Rattle.cells.specs.Marks.{Marks}
 use Rattle.cells.proofs.Storing.{cell-lengths}
 use Rattle.reclaim.specs.Reclaiming.{lowTo, Heaped, Freed, Scan, Unheld, Done}
@@ -171,7 +172,7 @@ module _ {n cap : ℕ} {hs : List (Option ℕ)} {k : ℕ} {r : HeapRows} {at : S
   small : (i : ℕ) → i < t .at .used .zct → getD (r .tables .zct) i 0 < n
   small i l =
       let c = G .rows .ready .are .zct-is .count in
-      rw (entry i l) at (all-at (λ y. y < n) (reclaim cap hs k h .tables .zct) i (G .rows .ready .kept .zct-below) (omega arith))
+      rw (entry i l) at (all-at (λ y. y < n) (reclaim cap hs k h .tables .zct) (G .rows .ready .kept .zct-below) i (omega arith))
 
   pub scan : Scan (r .tables .zct) (t .at .used .zct) work (t .low)
   scan =
@@ -181,7 +182,7 @@ module _ {n cap : ℕ} {hs : List (Option ℕ)} {k : ℕ} {r : HeapRows} {at : S
         small = λ i l. rw (M .long) (small i l);
         below = λ i l b.
             let c = G .rows .ready .are .zct-is .count in
-            let o : holds (getD (r .tables .zct) i 0) hs ≡ true = G .below (getD (r .tables .zct) i 0) (rw (entry i l) at (has-at i (reclaim cap hs k h .tables .zct) (omega arith))) b in
+            let o : holds (getD (r .tables .zct) i 0) hs ≡ true = G .below (getD (r .tables .zct) i 0) (rw (entry i l) at (has-at (reclaim cap hs k h .tables .zct) i (omega arith))) b in
             M .marks (getD (r .tables .zct) i 0) (small i l) ∙ ap (λ (t : Bool). cond t 1 0) o;
       }
 

@@ -312,7 +312,9 @@ module _ (s : Sizes) (ok : Limits s) (h : Heap) where
         record {
           zct-up = at-up z (λ j k. rw (add-one j, pad-at (s .n) z j (omega arith), pad-at (s .n) z (suc j) k) at (sound .tables .zct-row .ascending j (omega arith)));
           zct-below = at-all (λ y. y < s .n) z (λ j k. zct-live j k .cell);
-          mrt-up = at-up (addresses m) (λ j k. let w : suc j < length m = rw length-map at k in rw (add-one j, mrt-pad j (omega arith), mrt-pad (suc j) w) at (sound .tables .mrt-row .ascending j (omega arith)));
+          mrt-up = at-up (addresses m) (λ j k.
+              let w : suc j < length m = rw length-map at k in
+              rw (add-one j, mrt-pad j (omega arith), mrt-pad (suc j) w) at (sound .tables .mrt-row .ascending j (omega arith)));
           mrt-below = at-all (λ y. y < s .n) (addresses m) (λ j k. mrt-live j (rw length-map at k) .cell);
           mrt-counts = at-all (λ c. (2 ≤ c) × (c ≤ s .cap)) (counts m) (λ j k. ranged-here j (rw length-map at k));
         }

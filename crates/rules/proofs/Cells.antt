@@ -1,7 +1,7 @@
 -- Cells in use, and what a write to a field leaves. Assumes nothing.
 use Prim.Native.Nat.{ℕ, zero, suc, _+_, _*_, _<_, _≤_}
-use mathlib.Core.Path.{_≡_, refl, sym, ap, _∙_, subst}
-use mathlib.Core.Logic.{_⊎_, inl, inr, _≢_}
+use mathlib.Core.Path.{_≡_, refl, sym, ap, _∙_}
+use mathlib.Core.Logic.{_≢_}
 use mathlib.Core.Bool.{Bool, true, false, cond, true≢false, false≢true}
 use mathlib.Core.Option.{Option}
 use mathlib.Core.List.{List, [], _∷_}
@@ -17,6 +17,7 @@ use Rattle.rules.specs.Settle.{drops, place, field, store}
 use Rattle.rules.specs.Invariant.{hit, refs, used, live, Good, Fitting, Small}
 use Rattle.rules.proofs.Tables.{eqb-self}
 use Rattle.rules.proofs.Exact.{refs-set}
+use Rattle.rules.proofs.Lists.{set-each}
 
 -- ---- liveness and writes
 
@@ -109,32 +110,17 @@ Plain1 fs = (a b : ℕ) → field fs a 1 ≡ Free b → ⊥
 abbrev pub Figures : List Field → Type 0
 Figures fs = (i : ℕ) → Fitting (getD fs i Nothing)
 
-pub getD-set-either : {A : Type 0} (l : List A) (i j : ℕ) (x d : A) → (getD (set l i x) j d ≡ x) ⊎ (getD (set l i x) j d ≡ getD l j d)
-getD-set-either [] i j x d = inr refl
-getD-set-either (y ∷ l) zero zero x d = inl refl
-getD-set-either (y ∷ l) zero (suc j) x d = inr refl
-getD-set-either (y ∷ l) (suc i) zero x d = inr refl
-getD-set-either (y ∷ l) (suc i) (suc j) x d = getD-set-either l i j x d
-
 pub plain-store-0 : (fs : List Field) (a : ℕ) (x : Field) → Plain1 fs → Plain1 (store fs a 0 x)
 unfolding field store
 plain-store-0 fs a x p c b e = p c b (sym (getD-set-other fs (place a 0) (place c 1) x Nothing (λ d. let h = places c a 1 0 d (omega arith) (omega arith) in omega arith)) ∙ e)
 
 pub plain-store : (fs : List Field) (a f : ℕ) (x : Field) → used x ≡ true → Plain1 fs → Plain1 (store fs a f x)
 unfolding field store
-plain-store fs a f x u p c b e = go (getD-set-either fs (place a f) (place c 1) x Nothing)
-  where
-    go : (getD (set fs (place a f) x) (place c 1) Nothing ≡ x) ⊎ (getD (set fs (place a f) x) (place c 1) Nothing ≡ getD fs (place c 1) Nothing) → ⊥
-    go (inl d) = true≢false (sym u ∙ ap used (sym d ∙ e))
-    go (inr d) = p c b (sym d ∙ e)
+plain-store fs a f x u p c b = set-each (λ y. y ≡ Free b → ⊥) fs (place a f) (place c 1) x Nothing (λ e. true≢false (sym u ∙ ap used e)) (p c b)
 
 pub figures-store : (fs : List Field) (a f : ℕ) (x : Field) → Fitting x → Figures fs → Figures (store fs a f x)
 unfolding store
-figures-store fs a f x u p i = go (getD-set-either fs (place a f) i x Nothing)
-  where
-    go : (getD (set fs (place a f) x) i Nothing ≡ x) ⊎ (getD (set fs (place a f) x) i Nothing ≡ getD fs i Nothing) → Fitting (getD (set fs (place a f) x) i Nothing)
-    go (inl d) = subst Fitting (sym d) u
-    go (inr d) = subst Fitting (sym d) (p i)
+figures-store fs a f x u p i = set-each Fitting fs (place a f) i x Nothing u (p i)
 
 -- ---- how many cells are in use
 

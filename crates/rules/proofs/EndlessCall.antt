@@ -124,6 +124,10 @@ module _ (s : Sizes) (ok : Limits s) (h : Heap) (g : Inv s h) (d : noneFree s h 
   abbrev blank : List Field
   blank = Nothing ∷ Nothing ∷ []
 
+  -- with the first free cell in use
+  abbrev taking : List Field
+  taking = store fs (h .first) 0 Nothing
+
   -- the new cell goes to the address never used before
   abbrev extend : ℕ → ℕ
   extend b = cond (eqb b (h .first)) (e .next) (ρ b)
@@ -144,7 +148,7 @@ module _ (s : Sizes) (ok : Limits s) (h : Heap) (g : Inv s h) (d : noneFree s h 
   old = sim-rename ρ extend (whole s ok (h .shape) (replay (s .cap) (h .log) (h .tables)) (g .good)) extend-live (R .sim)
 
   -- in use now: the new cell, or one that was
-  now : (b : ℕ) → live (store fs (h .first) 0 Nothing) b ≡ true → (b ≡ h .first) ⊎ (live fs b ≡ true)
+  now : (b : ℕ) → live taking b ≡ true → (b ≡ h .first) ⊎ (live fs b ≡ true)
   unfolding place
   now b l = go (eqb b (h .first)) refl (sym (live-store-0 fs (h .first) b Nothing (let k = Tk .there in omega arith)) ∙ l)
     where
@@ -152,7 +156,7 @@ module _ (s : Sizes) (ok : Limits s) (h : Heap) (g : Inv s h) (d : noneFree s h 
       go true i m = inl (eqb-true b (h .first) i)
       go false i m = inr m
 
-  at-first : (f : ℕ) → f < 2 → field (store fs (h .first) 0 Nothing) (h .first) f ≡ Nothing
+  at-first : (f : ℕ) → f < 2 → field taking (h .first) f ≡ Nothing
   unfolding place
   at-first zero k = field-same fs (h .first) 0 Nothing (let k = Tk .there in omega arith)
   at-first (suc zero) k = field-across fs (h .first) 0 1 Nothing (omega arith) k (omega arith) ∙ Tk .blank-1
@@ -162,7 +166,7 @@ module _ (s : Sizes) (ok : Limits s) (h : Heap) (g : Inv s h) (d : noneFree s h 
   low a (inl i) = let x : extend a ≡ e .next = ap extend i ∙ extend-first in omega arith
   low a (inr l) = let y = extend-live a l in let z = R .below a l in omega arith
 
-  fields : (a f : ℕ) → (a ≡ h .first) ⊎ (live fs a ≡ true) → f < 2 → field (e .shape .fields ++ blank) (extend a) f ≡ renF extend (field (store fs (h .first) 0 Nothing) a f)
+  fields : (a f : ℕ) → (a ≡ h .first) ⊎ (live fs a ≡ true) → f < 2 → field (e .shape .fields ++ blank) (extend a) f ≡ renF extend (field taking a f)
   unfolding place
   fields a f (inl i) k = rw (i, extend-first, at-first f k) (new-field (e .shape .fields) (e .next) f (R .len) k)
   fields a f (inr l) k =
@@ -188,7 +192,7 @@ module _ (s : Sizes) (ok : Limits s) (h : Heap) (g : Inv s h) (d : noneFree s h 
         len = long;
       }
     where
-      grown : Sim every (live (store fs (h .first) 0 Nothing)) extend (record { fields = store fs (h .first) 0 Nothing; variables = h .shape .variables }) (record { fields = e .shape .fields ++ blank; variables = e .shape .variables })
+      grown : Sim every (live taking) extend (record { fields = taking; variables = h .shape .variables }) (record { fields = e .shape .fields ++ blank; variables = e .shape .variables })
       grown =
           record {
             many = old .many;
@@ -233,15 +237,18 @@ module _ (s : Sizes) (ok : Limits s) where
       }
   did Settle k h g f d ρ e R n = record { status-same = refl; value-same′ = λ k. absurd k; renamed = (ρ, R) }
 
-  ran : (c : Call) (h : Heap) → Inv s h → Fits (s .m) c → check c (h .shape) ≡ 0 → (ρ : ℕ → ℕ) (e : Endless) → AtEndless ρ (h .shape) e → ¬ (run s c h .answer .status ≡ 14) → AnsweredAs c (run s c h) (endlessRun c e)
+  ran : (c : Call) (h : Heap) → Inv s h → Fits (s .m) c → check c (h .shape) ≡ 0 → (ρ : ℕ → ℕ) (e : Endless) → AtEndless ρ (h .shape) e
+      → ¬ (run s c h .answer .status ≡ 14) → AnsweredAs c (run s c h) (endlessRun c e)
   unfolding run
   ran c h g f d ρ e R n = let k = settledFor s c h in did c (k .freed - h .freed) k (for-inv s ok c h g) f (for-right s ok c h g d) ρ e (at-for c h g ρ e R) n
 
-  pub step-agrees : (c : Call) (h : Heap) → Inv s h → Fits (s .m) c → (ρ : ℕ → ℕ) (e : Endless) → AtEndless ρ (h .shape) e → ¬ (step s c h .answer .status ≡ 14) → AnsweredAs c (step s c h) (endlessStep c e)
+  pub step-agrees : (c : Call) (h : Heap) → Inv s h → Fits (s .m) c → (ρ : ℕ → ℕ) (e : Endless) → AtEndless ρ (h .shape) e
+      → ¬ (step s c h .answer .status ≡ 14) → AnsweredAs c (step s c h) (endlessStep c e)
   unfolding step endlessStep
   step-agrees c h g f ρ e R n = rw (check-as s ok (h .shape) (replay (s .cap) (h .log) (h .tables)) (g .good) ρ e R c f) (go (check c (h .shape)) refl n)
     where
-      go : (k : ℕ) → check c (h .shape) ≡ k → ¬ (unless k (refused h) (run s c h) .answer .status ≡ 14) → AnsweredAs c (unless k (refused h) (run s c h)) (unless k (λ j. says e j (pos 0)) (endlessRun c e))
+      go : (k : ℕ) → check c (h .shape) ≡ k → ¬ (unless k (refused h) (run s c h) .answer .status ≡ 14)
+          → AnsweredAs c (unless k (refused h) (run s c h)) (unless k (λ j. says e j (pos 0)) (endlessRun c e))
       go zero d n = ran c h g f d ρ e R n
       go (suc j) d n = record { status-same = refl; value-same′ = λ k. refl; renamed = (ρ, R) }
 

@@ -160,7 +160,8 @@ module _ (n cap : ℕ) (cap3 : 3 ≤ cap) (hs : List (Option ℕ)) where
       R : Heap
       R = reclaim cap hs k h
 
-      same : (b : ℕ) (q : Bool) → pick hs (R .tables .zct) ≡ some b → eqb a b ≡ q → live (R .shape .fields) a ≡ true → cond q false (live (R .shape .fields) a) ≡ false → pick hs (R .tables .zct) ≡ some a
+      same : (b : ℕ) (q : Bool) → pick hs (R .tables .zct) ≡ some b → eqb a b ≡ q → live (R .shape .fields) a ≡ true
+          → cond q false (live (R .shape .fields) a) ≡ false → pick hs (R .tables .zct) ≡ some a
       same b true e f l d = let x = eqb-true a b f in cc
       same b false e f l d = absurd (true≢false (sym l ∙ d))
 

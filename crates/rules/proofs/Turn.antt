@@ -127,7 +127,9 @@ module _ (n cap : ℕ) (cap3 : 3 ≤ cap) (hs : List (Option ℕ)) (h : Heap) (g
 
       go : (q : Bool) → eqb b a ≡ q → Counted cap (leaveZct a t) (refs fs b) (cond q false (live fs b)) b
       go true e = rw (eqb-true b a e) at-a
-      go false e = record { ok = rw (remove-other b a (t .zct) e) (g .counted b .ok); exact = rw (remove-other b a (t .zct) e) (g .counted b .exact); gone = rw (remove-other b a (t .zct) e) (g .counted b .gone) }
+      go false e =
+          let d = remove-other b a (t .zct) e in
+          record { ok = rw d (g .counted b .ok); exact = rw d (g .counted b .exact); gone = rw d (g .counted b .gone) }
 
   pub turn-good : Good n cap (then .shape .fields) hs (then .tables)
   unfolding freeCell

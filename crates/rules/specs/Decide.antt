@@ -82,15 +82,15 @@ abbrev dec-not : {P : Type 0} → Dec P → Dec (P → ⊥)
 dec-not d = dec-imp d dec-no
 
 -- every number below n
-pub all-at : (n : ℕ) (P : ℕ → Type 0) → P n → ((i : ℕ) → i < n → P i) → (i : ℕ) → i < suc n → P i
-all-at n P p a i h = go (ℕ-discrete i n)
+pub all-up-to : (n : ℕ) (P : ℕ → Type 0) → P n → ((i : ℕ) → i < n → P i) → (i : ℕ) → i < suc n → P i
+all-up-to n P p a i h = go (ℕ-discrete i n)
   where
     go : Dec (i ≡ n) → P i
     go (yes e) = subst P (sym e) p
     go (no x) = a i (omega arith)
 
 abbrev all-go : (n : ℕ) (P : ℕ → Type 0) → Dec (P n) → Dec ((i : ℕ) → i < n → P i) → Dec ((i : ℕ) → i < suc n → P i)
-all-go n P (yes p) (yes a) = yes (all-at n P p a)
+all-go n P (yes p) (yes a) = yes (all-up-to n P p a)
 all-go n P (no x) a = no (λ f. x (f n (omega arith)))
 all-go n P (yes p) (no x) = no (λ f. x (λ i h. f i (omega arith)))
 
@@ -316,11 +316,21 @@ dec-lengths h kinds values variables zct mrt counts log work =
     need (ℕ-discrete counts (h .sizes .n)) (λ l. l .for-counts) (λ for-counts.
     need (ℕ-discrete log (2 * h .sizes .l)) (λ l. l .for-log) (λ for-log.
     need (ℕ-discrete work (h .sizes .n)) (λ l. l .for-work) (λ for-work.
-    yes (record { for-kinds = for-kinds; for-values = for-values; for-variables = for-variables; for-zct = for-zct; for-mrt = for-mrt; for-counts = for-counts; for-log = for-log; for-work = for-work })))))))))
+    yes
+    (record {
+      for-kinds = for-kinds;
+      for-values = for-values;
+      for-variables = for-variables;
+      for-zct = for-zct;
+      for-mrt = for-mrt;
+      for-counts = for-counts;
+      for-log = for-log;
+      for-work = for-work;
+    })))))))))
 
 -- are the head's numbers within the limits, and the rows' lengths those that it says?
 unfoldable pub sized? : (h : Head) (r : Lent) → Dec (Sized h r)
 sized? h r =
     need (dec-within h) (λ z. z .within) (λ within.
-    need (dec-lengths h (length (r .kinds)) (length (r .values)) (length (r .variables)) (length (r .tables .zct)) (length (r .tables .mrt)) (length (r .tables .counts)) (length (r .log)) (length (r .work))) (λ z. z .lengths) (λ lengths.
+    need (dec-lengths h _ _ _ _ _ _ _ _) (λ z. z .lengths) (λ lengths.
     yes (record { within = within; lengths = lengths })))

@@ -56,9 +56,10 @@ Variable n ks x = (x ≡ negsuc 0 → ⊥) → Live n ks (addressOf n x)
 abbrev pub Variables : ℕ → List ℕ → List ℤ → Type 0
 Variables n ks xs = (v : ℕ) → v < length xs → Variable n ks (getD xs v (pos 0))
 
--- kinds and values are as above; pointers and variables name cells that aren't free
 pub record CellsSound (n : ℕ) (ks : List ℕ) (vs xs : List ℤ) : Type 0 where
+  -- kinds and values are as above; pointers name cells that aren't free
   pub words : Words n ks vs
+  -- variables name cells that aren't free
   pub variables : Variables n ks xs
 
 -- ---- table rows
@@ -68,20 +69,20 @@ abbrev pub ZeroFrom : List ℕ → ℕ → Type 0
 ZeroFrom row from = (j : ℕ) → from ≤ j → j < length row → getD row j 0 ≡ 0
 
 pub record TableRow (n : ℕ) (ks row : List ℕ) (used : ℕ) : Type 0 where
-  -- ascending by address, so that no table names a cell twice
+  -- table rows are as above: ascending by address, so that no table names a cell twice
   pub ascending : (j : ℕ) → j + 1 < used → getD row j 0 < getD row (j + 1) 0
-  -- it names cells that aren't free
+  -- ZCT and MRT name cells that aren't free
   pub live : (j : ℕ) → j < used → Live n ks (getD row j 0)
   -- zeros after the used part
   pub zeros : ZeroFrom row used
 
 pub record CountsRow (cs : List ℕ) (used cap : ℕ) : Type 0 where
-  -- no count but from 2 to the cap
+  -- counts go from 2 to the cap: no other count occurs
   pub ranged : (j : ℕ) → j < used → (2 ≤ getD cs j 0) × (getD cs j 0 ≤ cap)
   -- zeros after the used part
   pub zeros : ZeroFrom cs used
 
--- table rows are as above; ZCT and MRT name cells that aren't free, and no table names a cell twice; no other count occurs
+-- the rows of both tables
 pub record TablesSound (h : Head) (ks : List ℕ) (t : TableRows) : Type 0 where
   pub zct-row : TableRow (h .sizes .n) ks (t .zct) (h .zct)
   pub mrt-row : TableRow (h .sizes .n) ks (t .mrt) (h .mrt)
@@ -146,29 +147,25 @@ NotIn row used a = (j : ℕ) → At row used j a → ⊥
 pub record Agree (h : Head) (ks : List ℕ) (t : TableRows) (count : ℕ → ℕ) : Type 0 where
   -- ZCT and MRT share no cell
   pub apart : (i j : ℕ) → i < h .zct → j < h .mrt → getD (t .zct) i 0 ≡ getD (t .mrt) j 0 → ⊥
-  -- a cell that isn't free and is in neither has one pointer
+  -- a cell that isn't free and is in neither has one pointer from cells
   pub one : (a : ℕ) → Live (h .sizes .n) ks a → NotIn (t .zct) (h .zct) a → NotIn (t .mrt) (h .mrt) a → count a ≡ 1
   -- a ZCT cell has none
   pub none : (j : ℕ) → j < h .zct → count (getD (t .zct) j 0) ≡ 0
-  -- an MRT count below the cap is exact, and a count at the cap may stand with any number
+  -- an MRT count from 2 to below the cap is exact, and a count at the cap may stand with any number
   pub exact : (j : ℕ) → j < h .mrt → getD (t .counts) j 0 < h .sizes .cap → count (getD (t .mrt) j 0) ≡ getD (t .counts) j 0
 
--- some variable holds each ZCT cell
+-- a ZCT cell: some variable holds it
 abbrev pub ZctHeld : ℕ → List ℤ → List ℕ → ℕ → Type 0
 ZctHeld n xs zs used = (j : ℕ) → j < used → heldAmong n xs (getD zs j 0) (length xs) ≡ true
 
 -- ---- the whole
 
+-- at batch ends
 pub record Sound (h : Head) (r : Lent) : Type 0 where
-  -- kinds and values are as above; pointers and variables name cells that aren't free
   pub cells : CellsSound (h .sizes .n) (r .kinds) (r .values) (r .variables)
-  -- table rows are as above; ZCT and MRT name cells that aren't free, and no table names a cell twice; no other count occurs
   pub tables : TablesSound h (r .kinds) (r .tables)
-  -- the free list meets every free cell once
   pub free-list : FreeList (h .sizes .n) (r .kinds) (r .values) (h .free)
-  -- ZCT and MRT share no cell; a cell in neither has one pointer from cells, a ZCT cell none, an MRT cell below the cap as many as its count
   pub agree : Agree h (r .kinds) (r .tables) (pointersTo (h .sizes .n) (r .kinds) (r .values))
-  -- some variable holds each ZCT cell
   pub held : ZctHeld (h .sizes .n) (r .variables) (r .tables .zct) (h .zct)
   -- log is zero
   pub log-zero : ZeroFrom (r .log) 0
@@ -184,7 +181,13 @@ pub record Lengths (h : Head) (kinds values variables zct mrt counts log work : 
   pub for-log : log ≡ 2 * h .sizes .l
   pub for-work : work ≡ h .sizes .n
 
+-- of the rows that are lent
+abbrev pub LengthsOf : Head → Lent → Type 0
+LengthsOf h r =
+    Lengths h (length (r .kinds)) (length (r .values)) (length (r .variables)) (length (r .tables .zct)) (length (r .tables .mrt)) (length (r .tables .counts))
+    (length (r .log)) (length (r .work))
+
 -- the head's numbers and the rows' lengths are as above
 pub record Sized (h : Head) (r : Lent) : Type 0 where
   pub within : Within h
-  pub lengths : Lengths h (length (r .kinds)) (length (r .values)) (length (r .variables)) (length (r .tables .zct)) (length (r .tables .mrt)) (length (r .tables .counts)) (length (r .log)) (length (r .work))
+  pub lengths : LengthsOf h r

@@ -12,8 +12,9 @@ use borrow.Author.Tests.{eqb-true, eqb-false, ne-eqb, eq-eqb}
 use Rattle.rules.specs.Table.{Entry, has, enter, delete, countIn, addresses, pad, Ascending}
 use Rattle.rules.specs.Rules.{Tables, enterMrt, leaveMrt, onCreate, onDestroy}
 use Rattle.tables.specs.Row.{place, put, cut, Moved, Listed, Counted, Pair}
-use Rattle.tables.proofs.Places.{count-none, count-at, enter-addresses, enter-counts, delete-addresses, delete-counts, put-addresses, put-counts}
-use Rattle.tables.proofs.Single.{all-at, is-take, put-is, cut-is, set-is, entry-used, enter-room}
+use Rattle.rules.proofs.Positions.{all-at}
+use Rattle.tables.proofs.Places.{count-none, count-there, there-addresses, there-counts, cut-addresses, cut-counts, put-addresses, put-counts}
+use Rattle.tables.proofs.Single.{is-take, put-is, cut-is, set-is, entry-used, enter-room}
 
 -- what a transaction makes of MRT, by the count beside a
 module _ (cap a : ℕ) (t : Tables) where
@@ -61,7 +62,7 @@ module _ {cap used : ℕ} {ms cs : List ℕ} (C : Counted cap ms cs used) (a p :
 
     pub pair-count : (2 ≤ getD cs p 0) × (getD cs p 0 ≤ cap)
     pair-count =
-        rw (getD-take used cs p 0 pair-used) at (all-at (λ c. (2 ≤ c) × (c ≤ cap)) (take used cs) p (C .within) (omega (arith, pair-used, length-take-le used cs (C .beside .fits))))
+        rw (getD-take used cs p 0 pair-used) at (all-at (λ c. (2 ≤ c) × (c ≤ cap)) (take used cs) (C .within) p (omega (arith, pair-used, length-take-le used cs (C .beside .fits))))
 
     module _ {n : ℕ} {m : List Entry} (P : Pair n ms cs used m) where
       up : Ascending (addresses m)
@@ -74,21 +75,21 @@ module _ {cap used : ℕ} {ms cs : List ℕ} (C : Counted cap ms cs used) (a p :
       at = rw (is-take (P .mrt-is)) at e
 
       pub count-is : countIn a m ≡ getD cs p 0
-      count-is = count-at a m up there ∙ rw (← at, ← is-take (P .counts-is)) (getD-take used cs p 0 pair-used)
+      count-is = count-there a m up there ∙ rw (← at, ← is-take (P .counts-is)) (getD-take used cs p 0 pair-used)
 
       same-pair : Pair n ms (set cs p (getD cs p 0)) used m
       same-pair = rw (set-getD cs p 0) P
 
       set-pair : (v : ℕ) → Pair n ms (set cs p v) used (enter a v m)
       set-pair v = record {
-        mrt-is = rw (enter-addresses a v m up there) (P .mrt-is);
-        counts-is = rw (enter-counts a v m up there, ← at) (set-is (C .beside) (P .counts-is) p v pair-used);
+        mrt-is = rw (there-addresses a v m up there) (P .mrt-is);
+        counts-is = rw (there-counts a v m up there, ← at) (set-is (C .beside) (P .counts-is) p v pair-used);
       }
 
       cut-pair : {xs ys : List ℕ} {r : ℕ} → r ≡ used - 1 → xs ≡ pad (length ms) (cut p (take used ms)) → ys ≡ pad (length cs) (cut p (take used cs)) → Pair n xs ys r (delete a m)
       cut-pair l x y = record {
-        mrt-is = rw (delete-addresses a m up there, ← at) (cut-is (L .padded) (P .mrt-is) p pair-used l x);
-        counts-is = rw (delete-counts a m up there, ← at) (cut-is (C .beside) (P .counts-is) p pair-used l y);
+        mrt-is = rw (cut-addresses a m up there, ← at) (cut-is (L .padded) (P .mrt-is) p pair-used l x);
+        counts-is = rw (cut-counts a m up there, ← at) (cut-is (C .beside) (P .counts-is) p pair-used l y);
       }
 
     pub counted-up : (v : ℕ) → Moved cap (getD cs p 0) (getD cs p 0 + 1) v

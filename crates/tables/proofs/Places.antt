@@ -1,16 +1,17 @@
 -- Entries of ascending lists at their places: the lists of `rules` in terms of put, cut and set. Assumes nothing.
 use mathlib.Core.Path.{_≡_, refl, sym, ap, _∙_}
-use mathlib.Core.Bool.{Bool, true, false, _||_, false≢true, true≢false}
+use mathlib.Core.Bool.{Bool, true, false, false≢true, true≢false}
 use mathlib.Core.List.{List, [], _∷_}
 use Prim.Native.Nat.{ℕ, zero, suc, _+_, _≤_, _<_, zero-le, suc-le-suc}
 use native.Mathlib.Nat.{le-of-suc-le-suc, not-suc-le-zero, le-of-lt}
 use native.Mathlib.Omega.{arith}
-use lib.ListN.{length, take, getD, set}
+use lib.ListN.{length, take, getD, set, length-map}
 use lib.Seq.{length-take-le, getD-take}
 use lib.Dec.{ltb, eqb}
 use borrow.Author.Tests.{lt-ltb, le-ltb, ltb-true, ltb-false, eqb-true, eqb-false, ne-eqb, eq-eqb}
 use Rattle.rules.specs.Table.{Entry, has, insert, remove, enter, delete, countIn, addresses, counts, Above, Below, Ascending}
-use Rattle.rules.proofs.Sorted.{enter-addresses as entered, delete-addresses as deleted}
+use Rattle.rules.proofs.Sorted.{enter-addresses, delete-addresses}
+use Rattle.rules.proofs.Positions.{count-at}
 use Rattle.rules.proofs.Roundtrip.{beside}
 use Rattle.tables.specs.Row.{place, put, cut}
 use Rattle.tables.proofs.Laws.{above-at}
@@ -66,15 +67,6 @@ place-at p [] s h = absurd (not-suc-le-zero h)
 place-at zero (x ∷ z) s h = rw (le-ltb x x (omega arith))
 place-at (suc p) (x ∷ z) s h =
     rw (lt-ltb x (getD z p 0) (above-at x z p (s .0) (le-of-suc-le-suc h))) (ap suc (place-at p z (s .1) (le-of-suc-le-suc h)))
-
-pub has-at : (p : ℕ) (z : List ℕ) → p < length z → has (getD z p 0) z ≡ true
-has-at p [] h = absurd (not-suc-le-zero h)
-has-at zero (x ∷ z) h = rw (eq-eqb x x refl)
-has-at (suc p) (x ∷ z) h = go (eqb (getD z p 0) x) (has-at p z (le-of-suc-le-suc h))
-  where
-    go : (d : Bool) → has (getD z p 0) z ≡ true → (d || has (getD z p 0) z) ≡ true
-    go true e = refl
-    go false e = e
 
 module _ (row : List ℕ) (used : ℕ) (fits : used ≤ length row) (a : ℕ) where
   pub has-used : Ascending (take used row) → has a (take used row) ≡ true → (place a (take used row) < used) × (getD row (place a (take used row)) 0 ≡ a)
@@ -159,33 +151,29 @@ delete-none a (x ∷ m) h = go (eqb a (x .address)) refl (delete-none a m)
     go false e ih = rw e (ap (λ (y : List Entry). x ∷ y) (ih (rw e at h)))
 
 -- an address that is an entry's: its count changes, or it is deleted
-pub count-at : (a : ℕ) (m : List Entry) → Ascending (addresses m) → has a (addresses m) ≡ true → countIn a m ≡ getD (counts m) (place a (addresses m)) 0
-count-at a [] s h = absurd (false≢true h)
-count-at a (x ∷ m) s h = go (versus a (x .address)) (count-at a m (s .1))
-  where
-    go : Versus a (x .address) → (has a (addresses m) ≡ true → countIn a m ≡ getD (counts m) (place a (addresses m)) 0) → countIn a (x ∷ m) ≡ getD (counts (x ∷ m)) (place a (addresses (x ∷ m))) 0
-    go (less l t e g) ih = rw (e, t) (ih (rw e at h))
-    go (same q t e) ih = rw (e, t)
-    go (more l t e g) ih = absurd (false≢true (sym (missing (x .address) a (addresses m) (s .0) (le-of-lt l)) ∙ (rw e at h)))
+pub count-there : (a : ℕ) (m : List Entry) → Ascending (addresses m) → has a (addresses m) ≡ true → countIn a m ≡ getD (counts m) (place a (addresses m)) 0
+count-there a m s h =
+    let r = has-place a (addresses m) s h in
+    ap (λ (b : ℕ). countIn b m) (sym (r .1)) ∙ count-at m s (place a (addresses m)) (rw length-map at (r .0))
 
-pub enter-addresses : (a k : ℕ) (m : List Entry) → Ascending (addresses m) → has a (addresses m) ≡ true → addresses (enter a k m) ≡ addresses m
-enter-addresses a k m s h = entered a k m ∙ insert-there a (addresses m) s h
+pub there-addresses : (a k : ℕ) (m : List Entry) → Ascending (addresses m) → has a (addresses m) ≡ true → addresses (enter a k m) ≡ addresses m
+there-addresses a k m s h = enter-addresses a k m ∙ insert-there a (addresses m) s h
 
-pub enter-counts : (a k : ℕ) (m : List Entry) → Ascending (addresses m) → has a (addresses m) ≡ true → counts (enter a k m) ≡ set (counts m) (place a (addresses m)) k
-enter-counts a k [] s h = absurd (false≢true h)
-enter-counts a k (x ∷ m) s h = go (versus a (x .address)) (enter-counts a k m (s .1))
+pub there-counts : (a k : ℕ) (m : List Entry) → Ascending (addresses m) → has a (addresses m) ≡ true → counts (enter a k m) ≡ set (counts m) (place a (addresses m)) k
+there-counts a k [] s h = absurd (false≢true h)
+there-counts a k (x ∷ m) s h = go (versus a (x .address)) (there-counts a k m (s .1))
   where
     go : Versus a (x .address) → (has a (addresses m) ≡ true → counts (enter a k m) ≡ set (counts m) (place a (addresses m)) k) → counts (enter a k (x ∷ m)) ≡ set (counts (x ∷ m)) (place a (addresses (x ∷ m))) k
     go (less l t e g) ih = rw (e, g, t) (ap (λ (y : List ℕ). x .count ∷ y) (ih (rw e at h)))
     go (same q t e) ih = rw (e, t)
     go (more l t e g) ih = absurd (false≢true (sym (missing (x .address) a (addresses m) (s .0) (le-of-lt l)) ∙ (rw e at h)))
 
-pub delete-addresses : (a : ℕ) (m : List Entry) → Ascending (addresses m) → has a (addresses m) ≡ true → addresses (delete a m) ≡ cut (place a (addresses m)) (addresses m)
-delete-addresses a m s h = deleted a m ∙ remove-cut a (addresses m) s h
+pub cut-addresses : (a : ℕ) (m : List Entry) → Ascending (addresses m) → has a (addresses m) ≡ true → addresses (delete a m) ≡ cut (place a (addresses m)) (addresses m)
+cut-addresses a m s h = delete-addresses a m ∙ remove-cut a (addresses m) s h
 
-pub delete-counts : (a : ℕ) (m : List Entry) → Ascending (addresses m) → has a (addresses m) ≡ true → counts (delete a m) ≡ cut (place a (addresses m)) (counts m)
-delete-counts a [] s h = refl
-delete-counts a (x ∷ m) s h = go (versus a (x .address)) (delete-counts a m (s .1))
+pub cut-counts : (a : ℕ) (m : List Entry) → Ascending (addresses m) → has a (addresses m) ≡ true → counts (delete a m) ≡ cut (place a (addresses m)) (counts m)
+cut-counts a [] s h = refl
+cut-counts a (x ∷ m) s h = go (versus a (x .address)) (cut-counts a m (s .1))
   where
     go : Versus a (x .address) → (has a (addresses m) ≡ true → counts (delete a m) ≡ cut (place a (addresses m)) (counts m)) → counts (delete a (x ∷ m)) ≡ cut (place a (addresses (x ∷ m))) (counts (x ∷ m))
     go (less l t e g) ih = rw (e, t) (ap (λ (y : List ℕ). x .count ∷ y) (ih (rw e at h)))
@@ -194,7 +182,7 @@ delete-counts a (x ∷ m) s h = go (versus a (x .address)) (delete-counts a m (s
 
 -- an address that is no entry's: it is put in with its count
 pub put-addresses : (a k : ℕ) (m : List Entry) → has a (addresses m) ≡ false → addresses (enter a k m) ≡ put (place a (addresses m)) a (addresses m)
-put-addresses a k m h = entered a k m ∙ insert-put a (addresses m) h
+put-addresses a k m h = enter-addresses a k m ∙ insert-put a (addresses m) h
 
 pub put-counts : (a k : ℕ) (m : List Entry) → has a (addresses m) ≡ false → counts (enter a k m) ≡ put (place a (addresses m)) k (counts m)
 put-counts a k [] h = refl

@@ -1,24 +1,17 @@
 -- One row that is a list: what the code reads of it, and the list after an entry or a deletion. Assumes nothing.
 use mathlib.Core.Path.{_≡_, sym, ap, _∙_}
 use mathlib.Core.Bool.{true, false}
-use mathlib.Core.List.{List, [], _∷_}
-use Prim.Native.Nat.{ℕ, zero, suc, _+_, _-_, _≤_, _<_}
-use native.Mathlib.Nat.{le-of-suc-le-suc, not-suc-le-zero}
+use mathlib.Core.List.{List}
+use Prim.Native.Nat.{ℕ, _+_, _-_, _≤_, _<_}
 use native.Mathlib.Omega.{arith}
-use lib.ListN.{length, take, getD, set, replicate, length-append, length-set}
+use lib.ListN.{length, take, set, replicate, length-append, length-set}
 use lib.Seq.{length-take-le, take-at, set-append-left}
-use Rattle.rules.specs.Table.{has, insert, remove, pad, All, Below, Ascending}
+use Rattle.rules.specs.Table.{has, insert, remove, pad, Below, Ascending}
 use Rattle.rules.specs.Whole.{Is}
 use Rattle.rules.proofs.Roundtrip.{length-pad}
 use Rattle.tables.specs.Row.{place, put, cut, Padded, Listed}
 use Rattle.tables.proofs.Laws.{length-put, length-cut, place-used}
 use Rattle.tables.proofs.Places.{has-used, insert-there, insert-put, remove-cut, room}
-
--- all of a list, at an index
-pub all-at : (P : ℕ → Type 0) (z : List ℕ) (i : ℕ) → All P z → i < length z → P (getD z i 0)
-all-at P [] i s h = absurd (not-suc-le-zero h)
-all-at P (x ∷ z) zero s h = s .0
-all-at P (x ∷ z) (suc i) s h = all-at P z i (s .1) (le-of-suc-le-suc h)
 
 pub is-pad : (n used : ℕ) (row z : List ℕ) → length z ≤ n → used ≡ length z → row ≡ pad n z → Is n row used z
 is-pad n used row z h l e = record { long = ap length e ∙ length-pad n z h; count = l; padded = e }

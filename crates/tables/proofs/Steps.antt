@@ -16,7 +16,8 @@ use Rattle.rules.specs.Whole.{Is, Kept, Ready}
 use Rattle.rules.specs.Invariant.{named}
 use Rattle.rules.proofs.Sorted.{insert-up, all-insert, leaveZct-kept, apply-kept}
 use Rattle.tables.specs.Row.{cut, Listed, Counted, Pair, Tabled, RowBy, MrtBy, TablesBy, ZctBy}
-use Rattle.tables.proofs.Places.{place-at, has-at, remove-cut, count-none}
+use Rattle.rules.proofs.Positions.{has-at}
+use Rattle.tables.proofs.Places.{place-at, remove-cut, count-none}
 use Rattle.tables.proofs.Single.{is-take, is-padded, is-listed, cut-is}
 use Rattle.tables.proofs.Pairs.{pair-count, count-is}
 
@@ -68,7 +69,7 @@ left {cap} {p} {r = r} {u = u} big h l x n t R =
     let w : p < length (t .zct) = omega arith in
     let g : getD (t .zct) p 0 ≡ getD zs p 0 = rw (← is-take I) (getD-take (u .zct) zs p 0 h) in
     let o : remove (getD zs p 0) (t .zct) ≡ cut p (t .zct) =
-    rw (← g) (remove-cut (getD (t .zct) p 0) (t .zct) (R .kept .zct-up) (has-at p (t .zct) w) ∙ rw (place-at p (t .zct) (R .kept .zct-up) w)) in
+    rw (← g) (remove-cut (getD (t .zct) p 0) (t .zct) (R .kept .zct-up) (has-at (t .zct) p w) ∙ rw (place-at p (t .zct) (R .kept .zct-up) w)) in
     record {
       are = record { zct-is = rw o (cut-is (is-padded I) I p h l x); mrt-is = R .are .mrt-is; counts-is = R .are .counts-is };
       kept = leaveZct-kept n cap big t (R .kept) (getD zs p 0);

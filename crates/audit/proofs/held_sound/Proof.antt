@@ -27,7 +27,10 @@ returns c =
     let marked : tie.After-mark-held = search needs in
     let p = start .pre in
     let m = rw (p .0 .1) at (marked .mark-held .ensures (map heldOf (start .args .variables .now)) (sym (p .1 .1))) in
-    same (marked-held _ _ (start .args .zct .now) (start .args .used) _ (p .1 .0) (p .1 .1) m) (held-marked _ _ (start .args .zct .now) (start .args .used) _ (p .1 .0) (p .1 .1) m) (c .all-held .ensures)
+    same
+    (marked-held _ _ (start .args .zct .now) (start .args .used) _ (p .1 .0) (p .1 .1) m)
+    (held-marked _ _ (start .args .zct .now) (start .args .used) _ (p .1 .0) (p .1 .1) m)
+    (c .all-held .ensures)
 
 pub held-sound-spec : {M : Type 1} → statement M
 held-sound-spec = tie.close (tie.spec mark-held-requires all-held-requires same-length returns)

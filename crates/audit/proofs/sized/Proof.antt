@@ -35,7 +35,8 @@ returns-4 c =
     isn't
     (λ s.
     ⊎-elim (λ w. w .taken (s .1 .for-zct))
-    (⊎-elim (λ w. eqb-false _ _ (not-true _ (w .1 .taken)) (s .1 .for-mrt)) (⊎-elim (λ w. eqb-false _ _ (not-true _ (w .2 .taken)) (s .1 .for-counts)) (λ w. eqb-false _ _ (not-true _ (w .3 .taken)) (s .1 .for-work))))
+    (⊎-elim (λ w. eqb-false _ _ (not-true _ (w .1 .taken)) (s .1 .for-mrt))
+    (⊎-elim (λ w. eqb-false _ _ (not-true _ (w .2 .taken)) (s .1 .for-counts)) (λ w. eqb-false _ _ (not-true _ (w .3 .taken)) (s .1 .for-work))))
     (c .if6 .came))
 
 returns-5 : tie.Need-returns-5

@@ -1,7 +1,6 @@
-use Rattle.rules.proofs.Answers.{is, isn't}
+use Rattle.rules.proofs.Answers.{is, isn't, refused, passed}
 use native.Mathlib.Omega.{arith}
 use borrow.Author.Needs.{needs}
-use borrow.Author.Tests.{not-true, not-false}
 use mathlib.Core.Logic.{⊎-elim}
 use Prim.Native.Nat.{_-_}
 use Rattle.rules.specs.Rows.{tableRows}
@@ -53,7 +52,8 @@ loop-again c =
     let in-zct : tie.Then2 Inv-loop μ-loop = search needs in
     let none : tie.Else3 Inv-loop μ-loop = search needs in
     let apart : tie.After-stands2 Inv-loop μ-loop = search needs in
-    turn-zct _ _ _ _ (start .pre .1 .1) _ _ _ (loop .loop .inv) (below .if1 .taken) (in-zct .before .stands .ensures .yes (in-zct .if2 .taken)) (apart .stands2 .ensures .no (c .if4 .left)) (none .if3 .left)
+    turn-zct _ _ _ _ (start .pre .1 .1) _ _ _ (loop .loop .inv) (below .if1 .taken)
+    (in-zct .before .stands .ensures .yes (in-zct .if2 .taken)) (apart .stands2 .ensures .no (c .if4 .left)) (none .if3 .left)
 
 stands-requires-3 : tie.Need-stands-requires-3 Inv-loop μ-loop
 stands-requires-3 c κs = search needs
@@ -68,7 +68,7 @@ exact-requires : tie.Need-exact-requires Inv-loop μ-loop
 exact-requires c κs = search needs
 
 returns-2 : tie.Need-returns-2 Inv-loop μ-loop
-returns-2 c = isn't (λ A. wrong 0 _ A (c .before .before .before .before .stands3 .ensures .yes (c .before .before .before .if5 .taken)) (c .before .exact .ensures .no (not-true _ (c .if6 .taken))))
+returns-2 c = isn't (λ A. wrong 0 _ A (c .before .before .before .before .stands3 .ensures .yes (c .before .before .before .if5 .taken)) (refused (c .before .exact .ensures) (c .if6 .taken)))
 
 add-q : tie.Need-add-q Inv-loop μ-loop
 add-q c = omega arith
@@ -86,8 +86,9 @@ loop-again-2 c =
     let below : tie.Then1 Inv-loop μ-loop = search needs in
     let not-zct : tie.Else2 Inv-loop μ-loop = search needs in
     let in-mrt : tie.Then5 Inv-loop μ-loop = search needs in
-    turn-mrt _ _ _ _ (start .pre .1 .1) _ _ _ (loop .loop .inv) (below .if1 .taken) (not-zct .before .stands .ensures .no (not-zct .if2 .left)) (in-mrt .before .stands3 .ensures .yes (in-mrt .if5 .taken))
-    (c .before .exact .ensures .yes (not-false _ (c .if6 .left)))
+    turn-mrt _ _ _ _ (start .pre .1 .1) _ _ _ (loop .loop .inv) (below .if1 .taken)
+    (not-zct .before .stands .ensures .no (not-zct .if2 .left)) (in-mrt .before .stands3 .ensures .yes (in-mrt .if5 .taken))
+    (passed (c .before .exact .ensures) (c .if6 .left))
 
 single-requires : tie.Need-single-requires Inv-loop μ-loop
 single-requires c κs = search needs
@@ -100,8 +101,9 @@ returns-3 c =
     let not-zct : tie.Else2 Inv-loop μ-loop = search needs in
     let not-mrt : tie.Else5 Inv-loop μ-loop = search needs in
     isn't
-    (lonely _ _ _ _ (start .pre .1 .1) _ _ _ (loop .loop .inv) (below .if1 .taken) (not-zct .before .stands .ensures .no (not-zct .if2 .left)) (not-mrt .before .stands3 .ensures .no (not-mrt .if5 .left))
-    (c .before .single .ensures .no (not-true _ (c .if7 .taken))))
+    (lonely _ _ _ _ (start .pre .1 .1) _ _ _ (loop .loop .inv) (below .if1 .taken)
+    (not-zct .before .stands .ensures .no (not-zct .if2 .left)) (not-mrt .before .stands3 .ensures .no (not-mrt .if5 .left))
+    (refused (c .before .single .ensures) (c .if7 .taken)))
 
 add-a-3 : tie.Need-add-a-3 Inv-loop μ-loop
 add-a-3 c = omega arith
@@ -116,8 +118,9 @@ loop-again-3 c =
     let below : tie.Then1 Inv-loop μ-loop = search needs in
     let not-zct : tie.Else2 Inv-loop μ-loop = search needs in
     let not-mrt : tie.Else5 Inv-loop μ-loop = search needs in
-    turn-one _ _ _ _ (start .pre .1 .1) _ _ _ (loop .loop .inv) (below .if1 .taken) (not-zct .before .stands .ensures .no (not-zct .if2 .left)) (not-mrt .before .stands3 .ensures .no (not-mrt .if5 .left))
-    (c .before .single .ensures .yes (not-false _ (c .if7 .left)))
+    turn-one _ _ _ _ (start .pre .1 .1) _ _ _ (loop .loop .inv) (below .if1 .taken)
+    (not-zct .before .stands .ensures .no (not-zct .if2 .left)) (not-mrt .before .stands3 .ensures .no (not-mrt .if5 .left))
+    (passed (c .before .single .ensures) (c .if7 .left))
 
 returns-4 : tie.Need-returns-4 Inv-loop μ-loop
 returns-4 c =

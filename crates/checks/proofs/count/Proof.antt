@@ -34,7 +34,8 @@ add-work : tie.Need-add-work Inv-loop μ-loop
 add-work c =
     let l = c .before .before .before .before .loop in
     let t = c .before .before .points-to .result in
-    let a = c .before .before .before .before .before .before .before .args in
+    let start : tie.Start Inv-loop μ-loop = search needs in
+    let a = start .args in
     omega (arith, l .inv .1 .1 .1 .each t (omega arith), pointers-most (a .n) (a .kinds .now) (a .values .now) t (l .i))
 
 mul-work-2 : tie.Need-mul-work-2 Inv-loop μ-loop

@@ -30,7 +30,11 @@ returns-3 : tie.Need-returns-3
 returns-3 c = isn't (λ l. c .if3 .taken (l .alone))
 
 returns-4 : tie.Need-returns-4
-returns-4 c = let e = simp (toZ-ofZ (c .before .before .before .before .before .before .fits .x)) at (c .before .before .before .address-or .ensures) in is (record { first = search needs; next = omega arith; alone = search needs })
+returns-4 c =
+    let start : tie.Start = search needs in
+    let read : tie.After-address-or = search needs in
+    let e = simp (toZ-ofZ (start .fits .x)) at (read .address-or .ensures) in
+    is (record { first = search needs; next = omega arith; alone = search needs })
 
 pub mark-spec : {M : Type 1} → statement M
 mark-spec =

@@ -22,7 +22,9 @@ address-or-requires : tie.Need-address-or-requires
 address-or-requires c κs = search needs
 
 returns-2 : tie.Need-returns-2
-returns-2 c = points-cell (c .before .before .before .before .before .args .n) _ (getD (c .before .before .before .before .before .args .values .now) (c .before .before .before .before .before .args .i) (pos 0)) (c .before .before .if1 .left) _ (back _ (c .before .x .given)) _ (c .address-or .ensures)
+returns-2 c =
+    let start : tie.Start = search needs in
+    points-cell (start .args .n) _ (getD (start .args .values .now) (start .args .i) (pos 0)) (c .before .before .if1 .left) _ (back _ (c .before .x .given)) _ (c .address-or .ensures)
 
 pub points-to-spec : {M : Type 1} → statement M
 points-to-spec =

@@ -1,8 +1,7 @@
-use Rattle.rules.proofs.Answers.{isn't, same}
+use Rattle.rules.proofs.Answers.{isn't, same, refused, passed}
 use Rattle.rules.specs.Sound.{Live}
 use native.Mathlib.Omega.{arith}
 use borrow.Author.Needs.{needs}
-use borrow.Author.Tests.{not-true, not-false}
 use borrow.Author.Count.{below-more}
 use mathlib.Core.Path.{_≡_, refl, sym}
 use Prim.Native.Nat.{ℕ, _≤_, _-_, _<_, _+_}
@@ -32,13 +31,16 @@ live-requires : tie.Need-live-requires Inv-loop μ-loop
 live-requires c κs = search needs
 
 returns : tie.Need-returns Inv-loop μ-loop
-returns c = isn't (λ t. c .before .live .ensures .no (not-true _ (c .if1 .taken)) (t .live _ (c .before .before .before .loop-test .taken)))
+returns c = isn't (λ t. refused (c .before .live .ensures) (c .if1 .taken) (t .live _ (c .before .before .before .loop-test .taken)))
 
 ascends-requires : tie.Need-ascends-requires Inv-loop μ-loop
 ascends-requires c κs = search needs
 
 returns-2 : tie.Need-returns-2 Inv-loop μ-loop
-returns-2 c = isn't (λ t. c .before .ascends .ensures .no (not-true _ (c .if2 .taken)) (λ i e. let l = c .before .before .before .before .before .loop-test .taken in rw (sym e) (t .ascending i (omega arith))))
+returns-2 c =
+    let below : tie.In-loop Inv-loop μ-loop = search needs in
+    let l = below .loop-test .taken in
+    isn't (λ t. refused (c .before .ascends .ensures) (c .if2 .taken) (λ i e. rw (sym e) (t .ascending i (omega arith))))
 
 add-j : tie.Need-add-j Inv-loop μ-loop
 add-j c = omega arith
@@ -48,8 +50,10 @@ loop-less c = omega arith
 
 loop-again : tie.Need-loop-again Inv-loop μ-loop
 loop-again c =
-    let v = c .before .before .before .before .before .before .loop .inv in
-    (omega arith, (below-more _ _ (v .1 .0) (c .before .before .before .live .ensures .yes (not-false _ (c .before .before .if1 .left))), below-more _ _ (v .1 .1) (c .before .ascends .ensures .yes (not-false _ (c .if2 .left)))))
+    let l : tie.At-loop Inv-loop μ-loop = search needs in
+    let live : tie.Else1 Inv-loop μ-loop = search needs in
+    let v = l .loop .inv .1 in
+    (omega arith, (below-more _ _ (v .0) (passed (live .before .live .ensures) (live .if1 .left)), below-more _ _ (v .1) (passed (c .before .ascends .ensures) (c .if2 .left))))
 
 zero-from-requires : tie.Need-zero-from-requires Inv-loop μ-loop
 zero-from-requires c κs = tt

@@ -1,9 +1,8 @@
-use Rattle.rules.proofs.Answers.{is, isn't}
+use Rattle.rules.proofs.Answers.{is, isn't, refused, passed}
 use Rattle.rules.specs.Sound.{Variable}
 use Rattle.cells.proofs.Signed.{back}
 use native.Mathlib.Omega.{arith}
 use borrow.Author.Needs.{needs}
-use borrow.Author.Tests.{not-true, not-false}
 use borrow.Author.Count.{below-more}
 use mathlib.Core.Path.{sym, subst}
 use Prim.Native.Nat.{ℕ, _≤_, _-_, _<_}
@@ -31,7 +30,7 @@ variable-requires : tie.Need-variable-requires Inv-loop μ-loop
 variable-requires c κs = search needs
 
 returns : tie.Need-returns Inv-loop μ-loop
-returns c = isn't (λ z. c .before .variable .ensures .no (not-true _ (c .if1 .taken)) (subst (Variable _ _) (sym (back _ (c .before .before .x .given))) (z _ (c .before .before .before .loop-test .taken))))
+returns c = isn't (λ z. refused (c .before .variable .ensures) (c .if1 .taken) (subst (Variable _ _) (sym (back _ (c .before .before .x .given))) (z _ (c .before .before .before .loop-test .taken))))
 
 add-v : tie.Need-add-v Inv-loop μ-loop
 add-v c = omega arith
@@ -40,7 +39,7 @@ loop-less : tie.Need-loop-less Inv-loop μ-loop
 loop-less c = omega arith
 
 loop-again : tie.Need-loop-again Inv-loop μ-loop
-loop-again c = (omega arith, below-more _ _ (c .before .before .before .before .loop .inv .1) (rw (back _ (c .before .before .x .given)) at (c .before .variable .ensures .yes (not-false _ (c .if1 .left)))))
+loop-again c = (omega arith, below-more _ _ (c .before .before .before .before .loop .inv .1) (rw (back _ (c .before .before .x .given)) at (passed (c .before .variable .ensures) (c .if1 .left))))
 
 returns-2 : tie.Need-returns-2 Inv-loop μ-loop
 returns-2 c = is (λ k h. c .before .loop .inv .1 k (omega arith))

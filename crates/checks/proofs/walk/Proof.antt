@@ -69,15 +69,16 @@ address-or-requires c κs = search needs
 
 loop-less : tie.Need-loop-less Inv-loop μ-loop
 loop-less c =
-    let l = c .before .before .before .before .before .before .before .loop in
-    let t = c .before .before .before .before .before .before .loop-test .taken in
-    zeros-less (l .work) (l .at) (omega arith) (c .before .before .if2 .left)
+    let l : tie.At-loop Inv-loop μ-loop = search needs in
+    zeros-less (l .loop .work) (l .loop .at) (omega arith) (c .before .before .if2 .left)
 
 loop-again : tie.Need-loop-again Inv-loop μ-loop
 loop-again c =
-    let l = c .before .before .before .before .before .before .before .loop in
-    let t = c .before .before .before .before .before .before .loop-test .taken in
-    (l .inv .0, turned _ _ _ _ _ _ (l .inv .1) t (c .before .before .before .before .if1 .left) (c .before .before .if2 .left) _ (back _ (c .before .x .given)) _ (c .address-or .ensures))
+    let l : tie.At-loop Inv-loop μ-loop = search needs in
+    let below : tie.In-loop Inv-loop μ-loop = search needs in
+    let free : tie.Else1 Inv-loop μ-loop = search needs in
+    let new : tie.Else2 Inv-loop μ-loop = search needs in
+    (l .loop .inv .0, turned _ _ _ _ _ _ (l .loop .inv .1) (below .loop-test .taken) (free .if1 .left) (new .if2 .left) _ (back _ (c .before .x .given)) _ (c .address-or .ensures))
 
 same-length-3 : tie.Need-same-length-3 Inv-loop μ-loop
 same-length-3 c = omega arith

@@ -1,7 +1,6 @@
-use Rattle.rules.proofs.Answers.{isn't, truly}
+use Rattle.rules.proofs.Answers.{isn't, truly, refused, passed}
 use Rattle.checks.proofs.Fields.{in-row, in-last}
 use Rattle.checks.specs.CellRows.{WordIn}
-use borrow.Author.Tests.{not-true, not-false}
 use native.Mathlib.Omega.{arith}
 use borrow.Author.Needs.{needs}
 use borrow.Author.Count.{below-more}
@@ -48,7 +47,7 @@ loop2-less : tie.Need-loop2-less Inv-loop2 μ-loop2 Inv-loop μ-loop Inv-rows μ
 loop2-less c = omega arith
 
 loop2-again : tie.Need-loop2-again Inv-loop2 μ-loop2 Inv-loop μ-loop Inv-rows μ-rows
-loop2-again c = (omega arith, (c .before .before .before .loop2 .inv .1 .0, below-more _ _ (c .before .before .before .loop2 .inv .1 .1) (c .before .word-in .ensures .yes (not-false _ (c .if1 .left)))))
+loop2-again c = (omega arith, (c .before .before .before .loop2 .inv .1 .0, below-more _ _ (c .before .before .before .loop2 .inv .1 .1) (passed (c .before .word-in .ensures) (c .if1 .left))))
 
 add-a : tie.Need-add-a Inv-loop2 μ-loop2 Inv-loop μ-loop Inv-rows μ-rows
 add-a c = omega arith
@@ -72,7 +71,10 @@ returns : tie.Need-returns Inv-loop2 μ-loop2 Inv-loop μ-loop Inv-rows μ-rows
 returns c = truly (c .before .rows .inv .1 .0) (λ b h g k. in-last _ _ _ _ _ (c .before .rows .inv .1 .1 1 (omega arith) b h g k))
 
 returns-2 : tie.Need-returns-2 Inv-loop2 μ-loop2 Inv-loop μ-loop Inv-rows μ-rows
-returns-2 c = isn't (λ w. c .before .word-in .ensures .no (not-true _ (c .if1 .taken)) (in-row _ _ _ _ _ _ (w _ (c .before .before .before .before .loop-test .taken) _ (c .before .before .loop2-test .taken))))
+returns-2 c =
+    let cell = c .before .before .before .before .loop-test .taken in
+    let part = c .before .before .loop2-test .taken in
+    isn't (λ w. refused (c .before .word-in .ensures) (c .if1 .taken) (in-row _ _ _ _ _ _ (w _ cell _ part)))
 
 pub words-spec : {M : Type 1} → statement M
 words-spec =
