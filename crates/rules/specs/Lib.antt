@@ -1,4 +1,5 @@
--- Document 01 as definitions, in its order: read these beside it. After Run: the letter, and what shows that its statements have teeth.
+-- Document 01 as definitions, in its order: read these beside it. Invariant: what holds in the middle of a batch too.
+-- After Run: the letter, and what shows that its statements have teeth.
 pub mod Head
 pub mod Field
 pub mod Table
