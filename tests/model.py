@@ -5,16 +5,21 @@
 
 A line of input is one of
     # text                       printed as it is
-    h n m l cap free zct mrt     the head
-    r k v x z m c l w            lengths of the eight rows (kinds values variables zct mrt counts log work), all elements 0
-    s ROW PLACE VALUE            one element; ROW is 0 to 7 in the order of r
-    c WORDS..                    the calls row, at most 16 words a line; a line 'c' alone empties it, 'c+' adds to it
+    h n=4 m=3 l=4 cap=3 free=0 zct=0 mrt=0
+                                 the head; a number not given is 0
+    r kinds=8 values=8 variables=3 zct=4 mrt=4 counts=4 log=8 work=4
+                                 the rows by their lengths, 0 where none is given; all elements 0
+    s ROW PLACE VALUE            one element of a row, by the row's name
+    c WORDS..                    the calls row; a line 'c' alone empties it, 'c+' adds to it
     a LENGTH                     an answers row of that length, every word -7
-    F  A  B                      fresh (from the head's first four numbers), audit, batch
+    F  A  B                      fresh (from the head's sizes), audit, batch
+A line that names what is not there, or a place past its row's end, is printed after '? ' and does nothing.
 """
 import sys
 
-NAMES = ["kinds", "values", "variables", "zct", "mrt", "counts", "log", "work"]
+SIZES = ["n", "m", "l", "cap"]
+HEAD = SIZES + ["free", "zct", "mrt"]
+ROWS = ["kinds", "values", "variables", "zct", "mrt", "counts", "log", "work"]
 N, M, L, CAP, FREE, ZCT, MRT = range(7)
 
 
@@ -212,44 +217,73 @@ def batch(h, rows, words, answers):
 
 
 def show(status, head, count, rows, answers=None):
-    print("status", status, "count", count, "head", *head)
-    for name, row in zip(NAMES, rows):
+    print("status", status, "count", count, "head", *[f"{name}={number}" for name, number in zip(HEAD, head)])
+    for name, row in zip(ROWS, rows):
         print(name, *row)
     if answers is not None:
         print("answers", *answers)
 
 
-def main():
-    h, rows, words, answers = [0] * 7, [[] for _ in range(8)], [], []
-    for line in sys.stdin.read().split("\n"):
-        if not line:
-            continue
-        if line[0] == "#":
-            print(line)
-            continue
-        what, *rest = line.split(" ")
-        num = [int(x) for x in rest]
+class Unknown(Exception):
+    """A line names what is not there."""
+
+
+def given(names, pairs):
+    """The numbers of `name=number` in the order of the names, 0 for one not given."""
+    numbers = dict.fromkeys(names, 0)
+    for pair in pairs:
+        name, equals, number = pair.partition("=")
+        if name not in numbers or not equals:
+            raise Unknown
+        numbers[name] = int(number)
+    return list(numbers.values())
+
+
+class Cases:
+    def __init__(self):
+        self.head, self.rows, self.calls, self.answers = given(HEAD, []), [[] for _ in ROWS], [], []
+
+    def line(self, what, *rest):
         if what == "h":
-            h = num
+            self.head = given(HEAD, rest)
         elif what == "r":
-            rows = [[0] * k for k in num]
+            self.rows = [[0] * length for length in given(ROWS, rest)]
         elif what == "s":
-            rows[num[0]][num[1]] = num[2]
+            self.set(*rest)
         elif what == "c":
-            words = num
+            self.calls = [int(word) for word in rest]
         elif what == "c+":
-            words = words + num
+            self.calls = self.calls + [int(word) for word in rest]
         elif what == "a":
-            answers = [-7] * num[0]
+            self.answers = [-7] * int(rest[0])
         elif what == "F":
-            status, h, count, rows = fresh(h, rows)
-            show(status, h, count, rows)
+            status, self.head, count, self.rows = fresh(self.head, self.rows)
+            show(status, self.head, count, self.rows)
         elif what == "A":
-            status, h, count, rows = audit(h, rows)
-            show(status, h, count, rows)
+            status, self.head, count, self.rows = audit(self.head, self.rows)
+            show(status, self.head, count, self.rows)
         elif what == "B":
-            status, h, count, rows, answers = batch(h, rows, words, answers)
-            show(status, h, count, rows, answers)
+            status, self.head, count, self.rows, self.answers = batch(self.head, self.rows, self.calls, self.answers)
+            show(status, self.head, count, self.rows, self.answers)
+        else:
+            raise Unknown
+
+    def set(self, name, place, value):
+        if name not in ROWS or int(place) >= len(self.rows[ROWS.index(name)]):
+            raise Unknown
+        self.rows[ROWS.index(name)][int(place)] = int(value)
+
+
+def main():
+    cases = Cases()
+    for line in sys.stdin.read().split("\n"):
+        if line.startswith("#"):
+            print(line)
+        elif line:
+            try:
+                cases.line(*line.split(" "))
+            except Unknown:
+                print("?", line)
 
 
 main()

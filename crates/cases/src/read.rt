@@ -1,24 +1,24 @@
-// Reading: lines, numbers, and what the lines with a head, lengths, calls and an answers row set.
+// Reading: lines, names, numbers, and what the lines with a head, lengths, calls and an answers row set.
 ghost use Prim.Native.Nat.{_≤_, _<_};
 ghost use lib.ListN.{length};
 use rules::Head;
 use rules::Sizes;
 
 // What goes from line to line: the head, how much of the calls and of the answers is used, and the eight rows with
-// their lengths.
+// their lengths. A row has room for a heap of one cell too many.
 pub struct State {
     pub head: Head,
     pub calls: usize,
     pub answers: usize,
-    pub sizes: [usize; 8],
-    pub kinds: [u8; 130],
-    pub values: [i32; 130],
-    pub variables: [i32; 130],
-    pub zct: [u32; 130],
-    pub mrt: [u32; 130],
-    pub counts: [u32; 130],
-    pub log: [u32; 130],
-    pub work: [u32; 130],
+    pub lengths: [usize; 8],
+    pub kinds: [u8; 2050],
+    pub values: [i32; 2050],
+    pub variables: [i32; 2050],
+    pub zct: [u32; 2050],
+    pub mrt: [u32; 2050],
+    pub counts: [u32; 2050],
+    pub log: [u32; 2050],
+    pub work: [u32; 2050],
 }
 
 // A number that was read, and the place past it.
@@ -28,17 +28,23 @@ pub struct Numeral {
     pub size: usize,
 }
 
+// A name that was read: its place among the names of its kind, and the place past it.
+pub struct Named {
+    pub next: usize,
+    pub which: usize,
+}
+
 pub fn start() -> State {
     let head = Head::fresh(Sizes::plain(0, 0, 0, 0));
-    let sizes = [0usize; 8];
-    let kinds = [0u8; 130];
-    let signed = [0i32; 130];
-    let unsigned = [0u32; 130];
+    let lengths = [0usize; 8];
+    let kinds = [0u8; 2050];
+    let signed = [0i32; 2050];
+    let unsigned = [0u32; 2050];
     State {
         head: head,
         calls: 0,
         answers: 0,
-        sizes: sizes,
+        lengths: lengths,
         kinds: kinds,
         values: signed,
         variables: signed,
@@ -88,14 +94,16 @@ fn with_digit(size: usize, byte: u8) -> usize {
     10 * size + wide(byte - 48)
 }
 
-fn wide(byte: u8) -> usize
+pub fn wide(byte: u8) -> usize
     ensures { λ r. ⌜ r < 256 ⌝ }
 {
     byte as usize
 }
 
 // The digits from a place up to the next space or line end.
-fn digits(line: &[u8], from: usize, minus: bool) -> Numeral {
+fn digits(line: &[u8], from: usize, minus: bool) -> Numeral
+    ensures { λ r. ⌜ from ≤ r .next ⌝ }
+{
     let mut at = from;
     let mut size = 0;
     while at < line.len() {
@@ -113,21 +121,158 @@ fn digits(line: &[u8], from: usize, minus: bool) -> Numeral {
     }
 }
 
-// The number that stands after one space.
-pub fn number(line: &[u8], from: usize) -> Numeral {
-    let at = past(line, from, b' ');
+// The number that stands after one space or `=`.
+pub fn number(line: &[u8], from: usize) -> Numeral
+    ensures { λ r. ⌜ from ≤ r .next ⌝ }
+{
+    let at = past(line, past(line, from, b' '), b'=');
     let next = past(line, at, b'-');
     digits(line, next, at < next)
 }
 
 // The place past this byte, if it is here.
-fn past(line: &[u8], at: usize, byte: u8) -> usize {
+fn past(line: &[u8], at: usize, byte: u8) -> usize
+    ensures { λ r. ⌜ at ≤ r ⌝ }
+{
     if at < line.len() {
         if line[at] == byte {
             return at + 1;
         }
     }
     at
+}
+
+// The place past the letters from a place on.
+fn letters(line: &[u8], from: usize) -> usize
+    requires { ⌜ from ≤ length (now line) ⌝ }
+    ensures { λ r. ⌜ (from ≤ r) × (r ≤ length (now (line .entry))) ⌝ }
+{
+    let mut at = from;
+    while at < line.len() {
+        if line[at] < b'a' {
+            return at;
+        }
+        at += 1;
+    }
+    at
+}
+
+// Are the bytes the same?
+fn same(a: &[u8], b: &[u8]) -> bool {
+    if a.len() != b.len() {
+        return false;
+    }
+    let mut i = 0;
+    while i < a.len() {
+        if a[i] != b[i] {
+            return false;
+        }
+        i += 1;
+    }
+    true
+}
+
+// Which number of the head a name is; 7 for none.
+fn head_name(name: &[u8]) -> usize {
+    if same(name, b"n") {
+        return 0;
+    }
+    if same(name, b"m") {
+        return 1;
+    }
+    if same(name, b"l") {
+        return 2;
+    }
+    if same(name, b"cap") {
+        return 3;
+    }
+    if same(name, b"free") {
+        return 4;
+    }
+    if same(name, b"zct") {
+        return 5;
+    }
+    if same(name, b"mrt") {
+        return 6;
+    }
+    7
+}
+
+// Which row a name is; 8 for none.
+fn row_name(name: &[u8]) -> usize {
+    if same(name, b"kinds") {
+        return 0;
+    }
+    if same(name, b"values") {
+        return 1;
+    }
+    if same(name, b"variables") {
+        return 2;
+    }
+    if same(name, b"zct") {
+        return 3;
+    }
+    if same(name, b"mrt") {
+        return 4;
+    }
+    if same(name, b"counts") {
+        return 5;
+    }
+    if same(name, b"log") {
+        return 6;
+    }
+    if same(name, b"work") {
+        return 7;
+    }
+    8
+}
+
+// The name at a place of the line, among the head's numbers or among the rows.
+pub fn named(line: &[u8], from: usize, of_head: bool) -> Named
+    ensures { λ r. ⌜ from ≤ r .next ⌝ }
+{
+    if line.len() < from {
+        return Named {
+            next: from,
+            which: 8,
+        };
+    }
+    let end = letters(line, from);
+    if of_head {
+        return Named {
+            next: end,
+            which: head_name(&line[from..end]),
+        };
+    }
+    Named {
+        next: end,
+        which: row_name(&line[from..end]),
+    }
+}
+
+// The line's pairs `name=number` into the row, each at its name's place; false where a name is not known.
+fn settings(line: &[u8], of_head: bool, out: &mut [usize]) -> bool {
+    let mut at = 1;
+    while at < line.len() && line[at] == b' ' {
+        let name = named(line, at + 1, of_head);
+        let which = name.which;
+        if out.len() <= which {
+            return false;
+        }
+        if !is_at(line, name.next, b'=') {
+            return false;
+        }
+        let w = number(line, name.next);
+        out[which] = w.size;
+        at = w.next;
+    }
+    true
+}
+
+// The line of a line that says nothing known.
+pub fn unknown(line: &[u8]) {
+    print::text(b"? ");
+    print::text(line);
 }
 
 // The number as a signed word; what has more bits is the least word, -2147483648.
@@ -155,18 +300,6 @@ pub fn unsigned(n: Numeral) -> u32 {
     }
 }
 
-// The row's numbers, from a place of the line on.
-fn sizes(line: &[u8], from: usize, out: &mut [usize]) {
-    let mut at = from;
-    let mut n = 0;
-    while n < out.len() {
-        let w = number(line, at);
-        out[n] = w.size;
-        at = w.next;
-        n += 1;
-    }
-}
-
 // Signed words into a row, from a place of the line on: as many as the line and the row have, which is the answer.
 fn words(line: &[u8], from: usize, out: &mut [i32]) -> usize {
     let mut at = from;
@@ -181,10 +314,13 @@ fn words(line: &[u8], from: usize, out: &mut [i32]) -> usize {
     n
 }
 
-// h n m l cap free zct mrt
+// h n=N m=M l=L cap=C free=F zct=Z mrt=R: a number not given is 0.
 pub fn head_line(line: &[u8], mut s: State) -> State {
     let mut w = [0usize; 7];
-    sizes(line, 1, &mut w);
+    if !settings(line, true, &mut w) {
+        unknown(line);
+        return s;
+    }
     let head = Head {
         sizes: Sizes::plain(w[0], w[1], w[2], w[3]),
         free: w[4],
@@ -195,16 +331,19 @@ pub fn head_line(line: &[u8], mut s: State) -> State {
     s
 }
 
-// r k v x z m c l w: the lengths, and rows of zeros.
+// r kinds=K values=V ..: the lengths, 0 where none is given, and rows of zeros.
 pub fn rows_line(line: &[u8], s: State) -> State {
     let mut w = [0usize; 8];
-    sizes(line, 1, &mut w);
+    if !settings(line, false, &mut w) {
+        unknown(line);
+        return s;
+    }
     let head = s.head;
     let mut t = start();
     t.head = head;
     t.calls = s.calls;
     t.answers = s.answers;
-    t.sizes = w;
+    t.lengths = w;
     t
 }
 

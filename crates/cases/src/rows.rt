@@ -8,9 +8,9 @@ use rules::Outcome;
 
 // A row's length, at most what the rows hold.
 pub fn clip(k: usize) -> usize
-    ensures { λ r. ⌜ r ≤ 130 ⌝ }
+    ensures { λ r. ⌜ r ≤ 2050 ⌝ }
 {
-    if k < 130 { k } else { 130 }
+    if k < 2050 { k } else { 2050 }
 }
 
 // One line, with its end.
@@ -30,18 +30,28 @@ pub fn line(line: &[u8], s: State, calls: &mut [i32], answers: &mut [i32]) -> St
         b'c' => read::calls_line(line, s, calls),
         b'a' => read::answers_line(line, s, answers),
         b'F' | b'A' | b'B' => run_line(first, s, calls, answers),
-        _ => s,
+        b'\n' => s,
+        _ => {
+            read::unknown(line);
+            s
+        }
     }
 }
 
 // s ROW PLACE VALUE
 fn set(line: &[u8], mut s: State) -> State {
-    let row = read::number(line, 1);
+    let row = read::named(line, 2, false);
     let place = read::number(line, row.next);
     let value = read::number(line, place.next);
-    let which = row.size;
+    let which = row.which;
     let i = place.size;
-    if 130 <= i {
+    let k = s.lengths;
+    if 8 <= which {
+        read::unknown(line);
+        return s;
+    }
+    if clip(k[which]) <= i {
+        read::unknown(line);
         return s;
     }
     let byte = read::byte(value);
@@ -80,7 +90,7 @@ fn run_line(which: u8, s: State, calls: &[i32], answers: &mut [i32]) -> State {
 
 // An entry point on the rows, each lent at its length; its outcome and the rows are printed.
 fn run(which: u8, mut s: State, calls: &[i32], answers: &mut [i32]) -> State {
-    let k = s.sizes;
+    let k = s.lengths;
     let mut kinds = s.kinds;
     let mut values = s.values;
     let mut variables = s.variables;

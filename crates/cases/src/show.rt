@@ -9,26 +9,29 @@ fn number(n: usize) {
     print::number(n);
 }
 
+// A number after its name.
+fn named(name: &[u8], n: usize) {
+    print::text(name);
+    print::number(n);
+}
+
 // status, count and head
 pub fn outcome(o: Outcome) {
     let h = o.head;
     let s = h.sizes;
-    print::text(b"status");
-    number(o.status);
-    print::text(b" count");
-    number(o.count);
-    print::text(b" head");
-    number(s.n);
-    number(s.m);
-    number(s.l);
-    number(s.cap);
-    number(h.free);
-    number(h.zct);
-    number(h.mrt);
+    named(b"status ", o.status);
+    named(b" count ", o.count);
+    named(b" head n=", s.n);
+    named(b" m=", s.m);
+    named(b" l=", s.l);
+    named(b" cap=", s.cap);
+    named(b" free=", h.free);
+    named(b" zct=", h.zct);
+    named(b" mrt=", h.mrt);
     print::text(b"\n");
 }
 
-fn byte_row(name: &[u8], row: [u8; 130], size: usize) {
+fn byte_row(name: &[u8], row: [u8; 2050], size: usize) {
     print::text(name);
     let used = clip(size);
     let mut i = 0;
@@ -51,7 +54,7 @@ fn signed_row(name: &[u8], row: &[i32]) {
     print::text(b"\n");
 }
 
-fn unsigned_row(name: &[u8], row: [u32; 130], size: usize) {
+fn unsigned_row(name: &[u8], row: [u32; 2050], size: usize) {
     print::text(name);
     let used = clip(size);
     let mut i = 0;
@@ -64,7 +67,7 @@ fn unsigned_row(name: &[u8], row: [u32; 130], size: usize) {
 
 // The eight rows, a line for each.
 pub fn rows(s: State) {
-    let k = s.sizes;
+    let k = s.lengths;
     let kinds = s.kinds;
     let values = s.values;
     let variables = s.variables;

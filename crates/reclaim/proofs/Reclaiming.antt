@@ -232,10 +232,10 @@ module _ {n cap : ℕ} {hs : List (Option ℕ)} {k : ℕ} {r : HeapRows} {at : S
         let none-left : pick hs (reclaim cap hs k h .tables .zct) ≡ none = picks-none hs (reclaim cap hs k h .tables .zct) (λ i b. held-before i (omega arith)) in
         let j : m - k + k ≡ m = omega arith in
         let e : reclaim cap hs m h ≡ reclaim cap hs k h = rw j at (reclaim-still cap hs h k none-left (m - k)) in
-        record { rows = rw e (G .rows); len = G .len; few = omega arith }
+        record { rows = rw e (G .rows); len = G .len; grows = omega arith; few = omega arith }
 
   pub done-late : (m : ℕ) → k ≤ m → m ≤ k → Done n cap hs m r at h (t .at)
   done-late m l o =
       let d = G .count in
       let e : m ≡ k = omega arith in
-      record { rows = rw e (G .rows); len = G .len; few = omega arith }
+      record { rows = rw e (G .rows); len = G .len; grows = omega arith; few = omega arith }

@@ -65,10 +65,11 @@ pub record Reclaimable (cap : ℕ) (r : HeapRows) (work : List ℕ) (at : State)
   pub marks : Marks (length (r .tables .zct)) work holds
   pub few : at .freed + turns ≤ 2000000
 
--- the rows are h after so many turns of reclaiming
+-- the rows are h after so many turns of reclaiming, each of which frees at most one cell
 pub record Done (n cap : ℕ) (hs : List (Option ℕ)) (turns : ℕ) (r : HeapRows) (at : State) (h : Heap) (o : State) : Type 0 where
   pub rows : Rows n cap r o (reclaim cap hs turns h)
   pub len : o .len ≡ at .len
+  pub grows : at .freed ≤ o .freed
   pub few : o .freed ≤ at .freed + turns
 
 -- rows that are a heap are that heap after so many turns of reclaiming, where the work row's marks are what is held

@@ -80,6 +80,7 @@ module _ {s : Sizes} {r : Lent} {at : State} {t : TableRows} {u : Used} {work : 
                 held-inside = rw v (W .held-inside);
                 work-long = ap length w ∙ length-replicate (s .n) 0;
               };
+          grows = D .grows;
           few = omega arith;
           work-zero = w;
         }
@@ -97,8 +98,8 @@ settleable {r = r} {h = h} W few = record { heap = h; own = r .variables; holds 
 
 pub room-as-is : {s : Sizes} {r : Lent} {at : State} {make : Bool} → make ≡ false → MakesRoom make s r at r at
 unfolding settledIf
-room-as-is e own hs h W c = rw e (record { whole = W; few = omega arith; work-is = refl })
+room-as-is e own hs h W c = rw e (record { whole = W; grows = omega arith; few = omega arith; work-is = refl })
 
 pub room-made : {make : Bool} {s : Sizes} {hs : List (Option ℕ)} {r r′ : Lent} {at o : State} {h : Heap} → make ≡ true → Settled s hs r′ at h o → RoomMade make s hs r at h r′ o
 unfolding settledIf
-room-made e S = rw e (record { whole = S .whole; few = S .few; work-is = S .work-zero })
+room-made e S = rw e (record { whole = S .whole; grows = S .grows; few = S .few; work-is = S .work-zero })

@@ -30,6 +30,7 @@ pub record Settleable (s : Sizes) (r : Lent) (at : State) : Type 0 where
 -- all rows are h after a settle that counts hs, which freed at most n cells, and the work row is zero
 pub record Settled (s : Sizes) (hs : List (Option ℕ)) (r : Lent) (at : State) (h : Heap) (o : State) : Type 0 where
   pub whole : Whole s r o (settledBy s hs h)
+  pub grows : at .freed ≤ o .freed
   pub few : o .freed ≤ at .freed + s .n
   pub work-zero : r .work ≡ replicate (s .n) 0
 
@@ -40,6 +41,7 @@ Settles s r at r′ o = (own : List ℤ) (hs : List (Option ℕ)) (h : Heap) →
 -- all rows are h, after a settle that counts hs where make says so; the work row is zero where one was made, else as it was
 pub record RoomMade (make : Bool) (s : Sizes) (hs : List (Option ℕ)) (r : Lent) (at : State) (h : Heap) (r′ : Lent) (o : State) : Type 0 where
   pub whole : Whole s r′ o (settledIf make s hs h)
+  pub grows : at .freed ≤ o .freed
   pub few : o .freed ≤ at .freed + s .n
   pub work-is : r′ .work ≡ cond make (replicate (s .n) 0) (r .work)
 

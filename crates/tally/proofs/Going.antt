@@ -1,5 +1,5 @@
 -- What holds between two batches of a script. Assumes nothing.
-use Prim.Native.Nat.{ℕ, _*_, _≤_}
+use Prim.Native.Nat.{ℕ, _+_, _*_, _≤_}
 use native.Mathlib.Omega.{arith}
 use lib.Seq.{length-take-le}
 use mathlib.Core.Path.{_≡_, sym}
@@ -7,15 +7,24 @@ use mathlib.Core.List.{List}
 use lib.IntN.{ℤ}
 use lib.ListN.{length, take}
 use Rattle.tally.specs.declared.Place.{Place}
-use Rattle.tally.specs.declared.Rows.{Rows}
-use Rattle.tally.specs.Rows.{Sized}
 
--- the rows have room, and each call of a closed batch has had a line of its own
-pub record Going (rows : Rows) (calls : List ℤ) (place : Place) : Type 0 where
-  pub room : Sized rows
+-- each call of a batch has had a line of its own, and the two rows of a batch have their lengths
+pub record Going (calls answers : List ℤ) (place : Place) : Type 0 where
   pub calls-length : length calls ≡ 1024
-  pub own : place .closed ≤ place .lines
+  pub answers-length : length answers ≡ 512
+  pub own : place .closed + place .calls ≤ place .lines
   pub most : place .lines ≤ 1000000
+
+-- the heap's rows have the lengths that they had
+pub record Kept (ks ks₀ : List ℕ) (xs xs₀ vs vs₀ : List ℤ) (zs zs₀ ms ms₀ cs cs₀ ls ls₀ ws ws₀ : List ℕ) : Type 0 where
+  pub kinds : length ks ≡ length ks₀
+  pub values : length xs ≡ length xs₀
+  pub variables : length vs ≡ length vs₀
+  pub zct : length zs ≡ length zs₀
+  pub mrt : length ms ≡ length ms₀
+  pub counts : length cs ≡ length cs₀
+  pub log : length ls ≡ length ls₀
+  pub work : length ws ≡ length ws₀
 
 -- the part of the calls row that a batch takes
 pub part-length : (k : ℕ) (calls : List ℤ) → k ≤ 256 → length calls ≡ 1024 → 4 * k ≡ length (take (4 * k) calls)

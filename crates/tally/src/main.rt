@@ -2,8 +2,8 @@
 ghost use mathlib.Core.Path.{_≡_};
 ghost use Prim.Native.Nat.{_+_, _<_, _≤_};
 ghost use lib.ListN.{length};
+ghost use Rattle.rules.specs.Head.{Limits, freshHead};
 ghost use Rattle.tally.specs.Place.{Gathered};
-ghost use Rattle.tally.specs.Rows.{Sized};
 use libc::STDIN_FILENO;
 use reader::Read;
 use rules::Head;
@@ -19,46 +19,44 @@ const CALLS_MOST: usize = 256;
 // More lines than any script has.
 const LINES_MOST: usize = 1000000;
 
-// How far a script is read: where the next line starts, the lines read, the calls of the closed
-// batches and of the open one, and whether the last line was bad.
+// How far a script is read: where the next line starts, the lines read, the calls of the closed batches and of the batch read
+// last, whether no batch was left to read, and whether the last line was bad.
 struct Place {
     at: usize,
     lines: usize,
     closed: usize,
     calls: usize,
+    ended: bool,
     bad: bool,
 }
 
 impl Place {
-    fn new(at: usize, lines: usize, closed: usize, calls: usize, bad: bool) -> Place
-        ensures { λ r. ⌜ (r .lines ≡ lines) × (r .closed ≡ closed) × (r .calls ≡ calls) ⌝ }
+    fn new(at: usize, lines: usize, closed: usize, calls: usize, ended: bool) -> Place
+        ensures { λ r. ⌜ (r .lines ≡ lines) × (r .closed ≡ closed) × (r .calls ≡ calls) × (r .ended ≡ ended) ⌝ }
     {
         Place {
             at: at,
             lines: lines,
             closed: closed,
             calls: calls,
-            bad: bad,
+            ended: ended,
+            bad: false,
         }
     }
-}
 
-// A heap of n cells, m variables and l log entries: its head, its rows, of which the sizes say how much is used, and what the
-// last entry point answered.
-struct Rows {
-    n: usize,
-    m: usize,
-    l: usize,
-    status: usize,
-    head: Head,
-    kinds: [u8; 2048],
-    values: [i32; 2048],
-    variables: [i32; 64],
-    zct: [u32; 1024],
-    mrt: [u32; 1024],
-    counts: [u32; 1024],
-    log: [u32; 2048],
-    work: [u32; 1024],
+    // After a bad line.
+    fn bad(at: usize, lines: usize, closed: usize) -> Place
+        ensures { λ r. ⌜ (r .lines ≡ lines) × (r .closed ≡ closed) × (r .calls ≡ 0) ⌝ }
+    {
+        Place {
+            at: at,
+            lines: lines,
+            closed: closed,
+            calls: 0,
+            ended: true,
+            bad: true,
+        }
+    }
 }
 
 // The line that ends a script that breaks the rules.
@@ -79,10 +77,13 @@ fn print_answer(number: usize, status: i32, value: i32) {
     print::text(b"\n");
 }
 
-// The lines of a batch's calls, of which the first is number first + 1.
-fn print_answers(answers: &[i32; 512], count: usize, first: usize)
+// The lines of a batch's calls, of which the first is number first + 1; a refused batch has none.
+fn print_answers(status: usize, answers: &[i32; 512], count: usize, first: usize)
     requires { ⌜ (count ≤ 256) × (first ≤ 1000000) ⌝ }
 {
+    if status != 0 {
+        return;
+    }
     let mut i = 0;
     while i < count {
         print_answer(first + i + 1, answers[2 * i], answers[2 * i + 1]);
@@ -169,23 +170,24 @@ fn print_free(n: usize) {
     print::text(b"\n");
 }
 
-// The lines at the end.
-fn print_heap(rows: Rows)
-    requires { ⌜ Sized rows ⌝ }
-{
-    let n = rows.n;
-    let m = rows.m;
-    let fields = 2 * n;
-    let head = rows.head;
-    let kinds = rows.kinds;
-    let variables = rows.variables;
-    let zct = rows.zct;
-    let mrt = rows.mrt;
-    let counts = rows.counts;
-    print_zct(&zct[..n], head.zct);
-    print_mrt(&mrt[..n], &counts[..n], head.mrt);
-    print_variables(&variables[..m]);
-    print_free(free_cells(&kinds[..fields]));
+// The lines at the end: the heap's, or that of a bad line.
+fn print_end(
+    place: Place,
+    head: Head,
+    kinds: &[u8],
+    variables: &[i32],
+    zct: &[u32],
+    mrt: &[u32],
+    counts: &[u32],
+) {
+    if place.bad {
+        print_bad(place.lines);
+        return;
+    }
+    print_zct(zct, head.zct);
+    print_mrt(mrt, counts, head.mrt);
+    print_variables(variables);
+    print_free(free_cells(kinds));
 }
 
 // Call number `i` of the open batch.
@@ -208,15 +210,15 @@ fn read_line(text: &[u8], at: usize, lines: usize, m: usize) -> Read
 
 // The lines up to the end of a batch: its calls, and how far the script is then read.
 fn gather(text: &[u8], from: Place, m: usize, calls: &mut [i32]) -> Place
-    requires { ⌜ (from .at < length (now text)) × (length (now calls) ≡ 1024) ⌝ }
-    requires { ⌜ (from .closed ≤ from .lines) × (from .lines < 1000000) ⌝ }
+    requires { ⌜ length (now calls) ≡ 1024 ⌝ }
+    requires { ⌜ (from .closed + from .calls ≤ from .lines) × (from .lines ≤ 1000000) ⌝ }
     ensures { λ r. ⌜ Gathered from r ⌝ }
 {
-    let closed = from.closed;
+    let closed = from.closed + from.calls;
     let mut at = from.at;
     let mut lines = from.lines;
     let mut count = 0;
-    loop {
+    while at < text.len() && lines < LINES_MOST {
         let read = read_line(text, at, lines, m);
         let line = read.line;
         at = read.next;
@@ -224,7 +226,7 @@ fn gather(text: &[u8], from: Place, m: usize, calls: &mut [i32]) -> Place
         match line {
             Line::Call(op, a, b, c) => {
                 if CALLS_MOST <= count {
-                    return Place::new(at, lines, closed, 0, true);
+                    return Place::bad(at, lines, closed);
                 }
                 keep(calls, count, op, a, b, c);
                 count += 1;
@@ -233,23 +235,65 @@ fn gather(text: &[u8], from: Place, m: usize, calls: &mut [i32]) -> Place
                 return Place::new(at, lines, closed, count, false);
             }
             _ => {
-                return Place::new(at, lines, closed, 0, true);
+                return Place::bad(at, lines, closed);
             }
         }
-        if text.len() <= at {
-            return Place::new(at, lines, closed, count, false);
-        }
-        if LINES_MOST <= lines {
-            return Place::new(at, lines, closed, count, false);
-        }
     }
+    Place::new(at, lines, closed, count, lines <= from.lines)
 }
 
-// A fresh heap of four numbers, its rows lent at their lengths.
-fn fresh(n: usize, m: usize, l: usize, cap: usize) -> Rows
-    requires { ⌜ (n ≤ 1024) × (m ≤ 64) × (l ≤ 1024) ⌝ }
-    ensures { λ r. ⌜ Sized r ⌝ }
+// A script after its heap line, on rows of the heap's lengths: its batches, and the lines at the end; nothing after a bad line.
+fn run(
+    text: &[u8],
+    start: usize,
+    sizes: Sizes,
+    kinds: &mut [u8],
+    values: &mut [i32],
+    variables: &mut [i32],
+    zct: &mut [u32],
+    mrt: &mut [u32],
+    counts: &mut [u32],
+    log: &mut [u32],
+    work: &mut [u32],
+) {
+    let made = heap::fresh(sizes, kinds, values, variables, zct, mrt, counts, log, work);
+    let mut head = made.head;
+    let mut calls = [0i32; 1024];
+    let mut answers = [0i32; 512];
+    let mut place = Place::new(start, 1, 0, 0, false);
+    loop {
+        place = gather(text, place, sizes.m, &mut calls);
+        if place.ended {
+            break;
+        }
+        let words = 4 * place.calls;
+        let done = heap::batch(
+            head,
+            kinds,
+            values,
+            variables,
+            zct,
+            mrt,
+            counts,
+            log,
+            work,
+            &calls[..words],
+            &mut answers,
+        );
+        head = done.head;
+        print_answers(done.status, &answers, place.calls, place.closed);
+    }
+    print_end(place, head, kinds, variables, zct, mrt, counts);
+}
+
+// A script after its heap line: each row is lent at its length.
+fn start(text: &[u8], next: usize, sizes: Sizes)
+    requires { ⌜ Limits (freshHead sizes) ⌝ }
 {
+    let n = sizes.n;
+    let m = sizes.m;
+    let fields = 2 * n;
+    let entries = 2 * sizes.l;
     let mut kinds = [0u8; 2048];
     let mut values = [0i32; 2048];
     let mut variables = [0i32; 64];
@@ -258,10 +302,10 @@ fn fresh(n: usize, m: usize, l: usize, cap: usize) -> Rows
     let mut counts = [0u32; 1024];
     let mut log = [0u32; 2048];
     let mut work = [0u32; 1024];
-    let fields = 2 * n;
-    let entries = 2 * l;
-    let made = heap::fresh(
-        Sizes::plain(n, m, l, cap),
+    run(
+        text,
+        next,
+        sizes,
         &mut kinds[..fields],
         &mut values[..fields],
         &mut variables[..m],
@@ -271,113 +315,6 @@ fn fresh(n: usize, m: usize, l: usize, cap: usize) -> Rows
         &mut log[..entries],
         &mut work[..n],
     );
-    let head = made.head;
-    Rows {
-        n: n,
-        m: m,
-        l: l,
-        status: made.status,
-        head: head,
-        kinds: kinds,
-        values: values,
-        variables: variables,
-        zct: zct,
-        mrt: mrt,
-        counts: counts,
-        log: log,
-        work: work,
-    }
-}
-
-// A batch on the rows, each lent at its length.
-fn batch(mut rows: Rows, calls: &[i32], answers: &mut [i32]) -> Rows
-    requires { ⌜ Sized rows ⌝ }
-    ensures { λ r. ⌜ Sized r ⌝ }
-{
-    let n = rows.n;
-    let m = rows.m;
-    let fields = 2 * n;
-    let entries = 2 * rows.l;
-    let mut kinds = rows.kinds;
-    let mut values = rows.values;
-    let mut variables = rows.variables;
-    let mut zct = rows.zct;
-    let mut mrt = rows.mrt;
-    let mut counts = rows.counts;
-    let mut log = rows.log;
-    let mut work = rows.work;
-    let done = heap::batch(
-        rows.head,
-        &mut kinds[..fields],
-        &mut values[..fields],
-        &mut variables[..m],
-        &mut zct[..n],
-        &mut mrt[..n],
-        &mut counts[..n],
-        &mut log[..entries],
-        &mut work[..n],
-        calls,
-        answers,
-    );
-    let head = done.head;
-    rows.status = done.status;
-    rows.head = head;
-    rows.kinds = kinds;
-    rows.values = values;
-    rows.variables = variables;
-    rows.zct = zct;
-    rows.mrt = mrt;
-    rows.counts = counts;
-    rows.log = log;
-    rows.work = work;
-    rows
-}
-
-// Runs a batch and prints its answers, which a refused batch has not.
-fn close(rows: Rows, calls: &[i32], first: usize) -> Rows
-    requires { ⌜ (first ≤ 1000000) × (length (now calls) ≤ 1024) × Sized rows ⌝ }
-    ensures { λ r. ⌜ Sized r ⌝ }
-{
-    let mut answers = [0i32; 512];
-    let count = calls.len() / 4;
-    let words = 2 * count;
-    let next = batch(rows, calls, &mut answers[..words]);
-    if next.status == 0 {
-        print_answers(&answers, count, first);
-    }
-    next
-}
-
-// The batches of a script; nothing after a bad line.
-fn run(text: &[u8], start: usize, fresh: Rows)
-    requires { ⌜ Sized fresh ⌝ }
-{
-    let mut calls = [0i32; 1024];
-    let mut rows = fresh;
-    let m = fresh.m;
-    let mut place = Place::new(start, 1, 0, 0, false);
-    while place.at < text.len() && place.lines < LINES_MOST {
-        place = gather(text, place, m, &mut calls);
-        if place.bad {
-            print_bad(place.lines);
-            return;
-        }
-        let words = 4 * place.calls;
-        rows = close(rows, &calls[..words], place.closed);
-        place.closed += place.calls;
-    }
-    print_heap(rows);
-}
-
-// A script on a fresh heap.
-fn start(text: &[u8], next: usize, rows: Rows)
-    requires { ⌜ Sized rows ⌝ }
-{
-    if rows.status != 0 {
-        print_bad(1);
-        return;
-    }
-    run(text, next, rows);
 }
 
 // A script.
@@ -385,14 +322,10 @@ fn tally(text: &[u8]) {
     let read = reader::read_line(text, 0, 0, 0);
     let line = read.line;
     if let Line::Heap(n, m, l, cap) = line {
-        if n <= Sizes::CELLS_MOST && m <= Sizes::VARIABLES_MOST {
-            if l <= Sizes::ENTRIES_MOST {
-                start(text, read.next, fresh(n, m, l, cap));
-                return;
-            }
-        }
+        start(text, read.next, Sizes::plain(n, m, l, cap));
+    } else {
+        print_bad(1);
     }
-    print_bad(1);
 }
 
 fn main() {

@@ -22,7 +22,7 @@ pub below-some : (m : ℕ) (x : ℤ) → ltZ x (pos 0) ≡ false → ltb (natAbs
 below-some m (pos a) h = refl
 below-some m (negsuc a) h = let q : _≡_ {A = ℕ} 1 0 = cc in absurd (omega arith)
 
-pub nought : (x : ℤ) → isBelow 1 x ≡ isNought x
+nought : (x : ℤ) → isBelow 1 x ≡ isNought x
 nought (pos zero) = refl
 nought (pos (suc a)) = le-ltb (suc a) 1 (omega arith) ∙ sym (ne-eqb (suc a) 0 (λ e. omega arith))
 nought (negsuc a) = refl
@@ -35,9 +35,12 @@ all-are {p} {q} {r} {p′} {q′} {r′} e a b c =
 pub same : {A : Type 0} {r : A} {z : ℤ} (f : ℤ → A) → SFits w32 z → r ≡ f (toZ w32 (ofZ w32 z)) → r ≡ f z
 same {z = z} f h e = e ∙ ap f (toZ-ofZ {w = w32} {z = z} h)
 
-pub same-three : {r : Bool} {x y z : ℤ} (f g h : ℤ → Bool) → SFits w32 x → SFits w32 y → SFits w32 z
-    → r ≡ (f (toZ w32 (ofZ w32 x)) && g (toZ w32 (ofZ w32 y)) && h (toZ w32 (ofZ w32 z))) → r ≡ (f x && g y && h z)
-same-three f g h a b c e = all-are e (same f a refl) (same g b refl) (same h c refl)
+-- a word below its bound; a word not named
+pub word : {z : ℤ} (x : ℕ) → SFits w32 z → isBelow x (toZ w32 (ofZ w32 z)) ≡ isBelow x z
+word {z} x h = ap (isBelow x) (toZ-ofZ {w = w32} {z = z} h)
+
+pub unused : {z : ℤ} → SFits w32 z → isBelow 1 (toZ w32 (ofZ w32 z)) ≡ isNought z
+unused {z} h = word 1 h ∙ nought z
 
 pub given-are : {d : Option Call} {t t′ : Bool} {x x′ : Call} → d ≡ given t x → t ≡ t′ → x ≡ x′ → d ≡ given t′ x′
 given-are {d} {t} {t′} {x} e a b = e ∙ ap (λ (s : Bool). given s x) a ∙ ap (λ (y : Call). given t′ y) b
@@ -45,10 +48,6 @@ given-are {d} {t} {t′} {x} e a b = e ∙ ap (λ (s : Bool). given s x) a ∙ a
 -- every figure is a signed 32-bit number
 pub any-figure : (x : ℤ) → SFits w32 x → true ≡ isSigned32 x
 any-figure x f = let h : mag x < 2147483648 = f .sfits in sym (lt-ltb _ _ h)
-
-pub figure-right : {r : Bool} (m : ℕ) {a b c : ℤ} → SFits w32 a → SFits w32 b → SFits w32 c
-    → r ≡ (isBelow m (toZ w32 (ofZ w32 a)) && isBelow 2 (toZ w32 (ofZ w32 b)) && true) → r ≡ (isBelow m a && isBelow 2 b && isSigned32 c)
-figure-right m {c = c} f g h e = all-are e (same (isBelow m) f refl) (same (isBelow 2) g refl) (any-figure c h)
 
 pub ap-three : {A B C D : Type 0} (f : A → B → C → D) {a a′ : A} {b b′ : B} {c c′ : C} → a ≡ a′ → b ≡ b′ → c ≡ c′ → f a b c ≡ f a′ b′ c′
 ap-three {A} {B} {C} f {a} {a′} {b} {b′} {c} p q r = ap (λ (x : A). f x b c) p ∙ ap₂ (f a′) q r

@@ -1,13 +1,19 @@
 // The words of a call: which call four words are, and whether a row of words is calls.
 ghost use mathlib.Core.Path.{_≡_};
-ghost use mathlib.Core.Bool.{true, _&&_};
+ghost use mathlib.Core.Bool.{_&&_};
 ghost use Prim.Native.Nat.{_+_, _≤_};
 ghost use lib.ListN.{length};
-ghost use Rattle.rules.specs.Call.{callOf, given, isBelow, isNought};
+ghost use Rattle.rules.specs.Call.{callOf, given, isBelow};
 ghost use Rattle.words.specs.Words.{decodedAs, isSome, callAt, Decides};
 use cells::address;
 use rules::Call;
 use rules::Deed;
+
+// A field is below this: 0 or 1.
+const FIELD: usize = 2;
+
+// A word not named is below this: 0.
+const UNUSED: usize = 1;
 
 // What four words are: a call, or none.
 pub enum Decoded {
@@ -23,13 +29,6 @@ fn is_below(x: i32, m: usize) -> bool
         return false;
     }
     (x as usize) < m
-}
-
-// Is the word 0, as one that a call does not name?
-fn is_nought(x: i32) -> bool
-    ensures { λ r. ⌜ r ≡ isNought x ⌝ }
-{
-    is_below(x, 1)
 }
 
 // Are all three words right?
@@ -56,85 +55,38 @@ fn given(right: bool, call: Call) -> Decoded
     }
 }
 
-// A variable and two unused words.
-fn one_variable(a: i32, b: i32, c: i32, m: usize) -> bool
-    ensures { λ r. ⌜ r ≡ (isBelow m a && isNought b && isNought c) ⌝ }
+// Is each of the three words below its bound?
+fn below(a: i32, x: usize, b: i32, y: usize, c: i32, z: usize) -> bool
+    ensures { λ r. ⌜ r ≡ (isBelow x a && isBelow y b && isBelow z c) ⌝ }
 {
-    all(is_below(a, m), is_nought(b), is_nought(c))
+    all(is_below(a, x), is_below(b, y), is_below(c, z))
 }
 
-// Two variables and an unused word.
-fn two_variables(a: i32, b: i32, c: i32, m: usize) -> bool
-    ensures { λ r. ⌜ r ≡ (isBelow m a && isBelow m b && isNought c) ⌝ }
-{
-    all(is_below(a, m), is_below(b, m), is_nought(c))
-}
-
-// A variable, a field and a variable.
-fn field_and_variable(a: i32, b: i32, c: i32, m: usize) -> bool
-    ensures { λ r. ⌜ r ≡ (isBelow m a && isBelow 2 b && isBelow m c) ⌝ }
-{
-    all(is_below(a, m), is_below(b, 2), is_below(c, m))
-}
-
-// A variable, a field and any figure.
-fn field_and_figure(a: i32, b: i32, m: usize) -> bool
-    ensures { λ r. ⌜ r ≡ (isBelow m a && isBelow 2 b && true) ⌝ }
-{
-    all(is_below(a, m), is_below(b, 2), true)
-}
-
-// A variable, a field and an unused word.
-fn one_field(a: i32, b: i32, c: i32, m: usize) -> bool
-    ensures { λ r. ⌜ r ≡ (isBelow m a && isBelow 2 b && isNought c) ⌝ }
-{
-    all(is_below(a, m), is_below(b, 2), is_nought(c))
-}
-
-// Three unused words.
-fn no_words(a: i32, b: i32, c: i32) -> bool
-    ensures { λ r. ⌜ r ≡ (isNought a && isNought b && isNought c) ⌝ }
-{
-    all(is_nought(a), is_nought(b), is_nought(c))
-}
-
-// The call that four words are, over m variables: the operation number picks it and the words it takes.
+// The call that four words are, over m variables: the operation number picks it and the words it takes (5: any figure).
 pub fn call_of(op: i32, a: i32, b: i32, c: i32, m: usize) -> Decoded
     ensures { λ r. ⌜ decodedAs r ≡ callOf m op a b c ⌝ }
 {
+    let p = address(a);
+    let q = address(b);
+    let r = address(c);
     match op {
         -2147483648..=0 | 11..=2147483647 => Decoded::Bad,
-        1 => given(one_variable(a, b, c, m), Call::New(address(a))),
-        2 => given(
-            two_variables(a, b, c, m),
-            Call::Do(Deed::Copy(address(a), address(b))),
-        ),
-        3 => given(one_variable(a, b, c, m), Call::Do(Deed::Clear(address(a)))),
-        4 => given(
-            field_and_variable(a, b, c, m),
-            Call::Do(Deed::Link(address(a), address(b), address(c))),
-        ),
+        1 => given(below(a, m, b, UNUSED, c, UNUSED), Call::New(p)),
+        2 => given(below(a, m, b, m, c, UNUSED), Call::Do(Deed::Copy(p, q))),
+        3 => given(below(a, m, b, UNUSED, c, UNUSED), Call::Do(Deed::Clear(p))),
+        4 => given(below(a, m, b, FIELD, c, m), Call::Do(Deed::Link(p, q, r))),
         5 => given(
-            field_and_figure(a, b, m),
-            Call::Do(Deed::Put(address(a), address(b), c)),
+            below(a, m, b, FIELD, 0, UNUSED),
+            Call::Do(Deed::Put(p, q, c)),
         ),
         6 => given(
-            one_field(a, b, c, m),
-            Call::Do(Deed::Blank(address(a), address(b))),
+            below(a, m, b, FIELD, c, UNUSED),
+            Call::Do(Deed::Blank(p, q)),
         ),
-        7 => given(
-            field_and_variable(a, b, c, m),
-            Call::Do(Deed::Follow(address(a), address(b), address(c))),
-        ),
-        8 => given(
-            one_field(a, b, c, m),
-            Call::Do(Deed::Read(address(a), address(b))),
-        ),
-        9 => given(
-            two_variables(a, b, c, m),
-            Call::Do(Deed::Same(address(a), address(b))),
-        ),
-        10 => given(no_words(a, b, c), Call::Settle),
+        7 => given(below(a, m, b, FIELD, c, m), Call::Do(Deed::Follow(p, q, r))),
+        8 => given(below(a, m, b, FIELD, c, UNUSED), Call::Do(Deed::Read(p, q))),
+        9 => given(below(a, m, b, m, c, UNUSED), Call::Do(Deed::Same(p, q))),
+        10 => given(below(a, UNUSED, b, UNUSED, c, UNUSED), Call::Settle),
     }
 }
 

@@ -5,10 +5,13 @@ use Rattle.tally.proofs.print_answers.Statement.{statement}
 use Rattle.tally.proofs.print_answers.Tie as tie
 
 abbrev Inv-loop : tie.InvT-loop
-Inv-loop answers count first i₀ i = i ≤ count
+Inv-loop status answers count first i₀ i = i ≤ count
 
 abbrev μ-loop : tie.MeasureT-loop
-μ-loop answers count first i₀ i = count - i
+μ-loop status answers count first i₀ i = count - i
+
+returns : tie.Need-returns Inv-loop μ-loop
+returns c = search needs
 
 loop-holds : tie.Need-loop-holds Inv-loop μ-loop
 loop-holds c = search needs
@@ -52,8 +55,8 @@ loop-less c = search needs
 loop-again : tie.Need-loop-again Inv-loop μ-loop
 loop-again c = search needs
 
-returns : tie.Need-returns Inv-loop μ-loop
-returns c = search needs
+returns-2 : tie.Need-returns-2 Inv-loop μ-loop
+returns-2 c = search needs
 
 pub print-answers-spec : {M : Type 1} → statement M
 print-answers-spec =
@@ -61,6 +64,7 @@ print-answers-spec =
     (tie.spec
     Inv-loop
     μ-loop
+    returns
     loop-holds
     add-print-answer
     add-print-answer-2
@@ -75,4 +79,4 @@ print-answers-spec =
     add-i
     loop-less
     loop-again
-    returns)
+    returns-2)

@@ -1,17 +1,35 @@
--- `tally::run` is safe and ends: each turn reads a line more, and the rows keep their room. Assumes nothing.
-use mathlib.Core.Path.{_∙_}
-use native.Mathlib.Omega.{arith}
+-- `tally::run` is safe and ends: each turn reads a line more, and every row keeps its length. Assumes nothing.
 use Prim.Native.Nat.{_-_}
-use Rattle.tally.proofs.Going.{Going, part-length}
+use mathlib.Core.Path.{_∙_, sym}
+use native.Mathlib.Omega.{arith}
 use borrow.Author.Needs.{needs}
+use Rattle.tally.proofs.Going.{Going, Kept, part-length}
 use Rattle.tally.proofs.run.Statement.{statement}
 use Rattle.tally.proofs.run.Tie as tie
 
 abbrev Inv-loop : tie.InvT-loop
-Inv-loop text start calls₀ rows₀ m place₀ calls rows place = Going rows calls place
+Inv-loop text start sizes kinds₀ values₀ variables₀ zct₀ mrt₀ counts₀ log₀ work₀ head₀ calls₀ answers₀ place₀ kinds values variables zct mrt counts log work head calls answers place =
+    Going calls answers place × Kept kinds kinds₀ values values₀ variables variables₀ zct zct₀ mrt mrt₀ counts counts₀ log log₀ work work₀
 
 abbrev μ-loop : tie.MeasureT-loop
-μ-loop text start calls₀ rows₀ m place₀ calls rows place = 1000000 - place .lines
+μ-loop text start sizes kinds₀ values₀ variables₀ zct₀ mrt₀ counts₀ log₀ work₀ head₀ calls₀ answers₀ place₀ kinds values variables zct mrt counts log work head calls answers place =
+    1000000 - place .lines
+
+-- where the function stands, looked back at from a later place
+abbrev made : tie.At-loop Inv-loop μ-loop → tie.After-fresh Inv-loop μ-loop
+made c = search needs
+
+abbrev turned : tie.After-gather Inv-loop μ-loop → tie.At-loop Inv-loop μ-loop
+turned c = search needs
+
+abbrev gathered : tie.Else1 Inv-loop μ-loop → tie.After-gather Inv-loop μ-loop
+gathered c = search needs
+
+abbrev going : tie.After-batch Inv-loop μ-loop → tie.Else1 Inv-loop μ-loop
+going c = search needs
+
+fresh-requires : tie.Need-fresh-requires Inv-loop μ-loop
+fresh-requires c κs = search needs
 
 new-requires : tie.Need-new-requires Inv-loop μ-loop
 new-requires c κs = search needs
@@ -25,38 +43,96 @@ slice-aggregate-gather c = search needs
 gather-requires : tie.Need-gather-requires Inv-loop μ-loop
 gather-requires c κs = search needs
 
-print-bad-requires : tie.Need-print-bad-requires Inv-loop μ-loop
-print-bad-requires c κs = search needs
-
-returns : tie.Need-returns Inv-loop μ-loop
-returns c = search needs
-
 mul-words : tie.Need-mul-words Inv-loop μ-loop
 mul-words c = search needs
 
 array-share-prefix-calls : tie.Need-array-share-prefix-calls Inv-loop μ-loop
-array-share-prefix-calls c = let g = c .before .before .before .gather in let i = c .before .before .before .before .before .before .before .before .before .loop .inv in let h = g .ensures in let e = g .kept .1 .1 .1 .0 in omega arith
+array-share-prefix-calls c = search needs
 
-slice-aggregate-close : tie.Need-slice-aggregate-close Inv-loop μ-loop
-slice-aggregate-close c = let g = c .before .before .before .before .gather in let i = c .before .before .before .before .before .before .before .before .before .before .loop .inv in part-length _ _ (g .ensures .batch) (g .kept .1 .1 .1 .0 ∙ i .calls-length)
+slice-aggregate-batch : tie.Need-slice-aggregate-batch Inv-loop μ-loop
+slice-aggregate-batch c =
+    let g : tie.After-gather Inv-loop μ-loop = search needs in
+    let i = turned g .loop .inv .0 in
+    part-length _ _ (g .gather .ensures .batch) (g .gather .kept .1 .1 .1 .0 ∙ i .calls-length)
 
-close-requires : tie.Need-close-requires Inv-loop μ-loop
-close-requires c κs = let g = c .before .before .before .before .gather in let i = c .before .before .before .before .before .before .before .before .before .before .loop .inv in let h = g .ensures in (omega arith, omega (arith, part-length (g .result .calls) (g .last .1 .1 .1 .0) (h .batch) (g .kept .1 .1 .1 .0 ∙ i .calls-length)), i .room)
+slice-aggregate-batch-2 : tie.Need-slice-aggregate-batch-2 Inv-loop μ-loop
+slice-aggregate-batch-2 c =
+    let g : tie.After-gather Inv-loop μ-loop = search needs in
+    let i = turned g .loop .inv .0 in
+    sym (i .answers-length)
 
-add-place : tie.Need-add-place Inv-loop μ-loop
-add-place c = search needs
+batch-requires : tie.Need-batch-requires Inv-loop μ-loop
+batch-requires c κs = search needs
+
+print-answers-requires : tie.Need-print-answers-requires Inv-loop μ-loop
+print-answers-requires c κs =
+    let b : tie.After-batch Inv-loop μ-loop = search needs in
+    let g = gathered (going b) in
+    let i = turned g .loop .inv .0 in
+    let h = g .gather .ensures in
+    (omega arith, omega arith)
 
 loop-less : tie.Need-loop-less Inv-loop μ-loop
-loop-less c = search needs
+loop-less c =
+    let b : tie.After-batch Inv-loop μ-loop = search needs in
+    let g = gathered (going b) in
+    let i = turned g .loop .inv .0 in
+    let h = g .gather .ensures in
+    let m = h .more (going b .if1 .left) in
+    omega arith
 
 loop-again : tie.Need-loop-again Inv-loop μ-loop
-loop-again c = let g = c .before .before .before .before .before .before .gather in let i = c .before .before .before .before .before .before .before .before .before .before .before .before .loop .inv in record { room = search needs; calls-length = g .kept .1 .1 .1 .0 ∙ i .calls-length; own = g .ensures .own; most = g .ensures .most }
+loop-again c =
+    let b : tie.After-batch Inv-loop μ-loop = search needs in
+    let g = gathered (going b) in
+    let i = turned g .loop .inv in (
+      record {
+        calls-length = g .gather .kept .1 .1 .1 .0 ∙ i .0 .calls-length;
+        answers-length = b .batch .kept .1 .1 .1 .1 .1 .1 .1 .1 .1 .1 .0 ∙ i .0 .answers-length;
+        own = g .gather .ensures .own;
+        most = g .gather .ensures .most;
+      },
+      record {
+        kinds = b .batch .kept .1 .0 ∙ i .1 .kinds;
+        values = b .batch .kept .1 .1 .0 ∙ i .1 .values;
+        variables = b .batch .kept .1 .1 .1 .0 ∙ i .1 .variables;
+        zct = b .batch .kept .1 .1 .1 .1 .0 ∙ i .1 .zct;
+        mrt = b .batch .kept .1 .1 .1 .1 .1 .0 ∙ i .1 .mrt;
+        counts = b .batch .kept .1 .1 .1 .1 .1 .1 .0 ∙ i .1 .counts;
+        log = b .batch .kept .1 .1 .1 .1 .1 .1 .1 .0 ∙ i .1 .log;
+        work = b .batch .kept .1 .1 .1 .1 .1 .1 .1 .1 .0 ∙ i .1 .work;
+      },
+    )
 
-print-heap-requires : tie.Need-print-heap-requires Inv-loop μ-loop
-print-heap-requires c κs = search needs
+print-end-requires : tie.Need-print-end-requires Inv-loop μ-loop
+print-end-requires c κs = search needs
 
-returns-2 : tie.Need-returns-2 Inv-loop μ-loop
-returns-2 c = search needs
+same-length : tie.Need-same-length Inv-loop μ-loop
+same-length c = let l : tie.At-loop Inv-loop μ-loop = search needs in l .loop .inv .1 .kinds ∙ made l .fresh .kept .1 .0
+
+same-length-2 : tie.Need-same-length-2 Inv-loop μ-loop
+same-length-2 c = let l : tie.At-loop Inv-loop μ-loop = search needs in l .loop .inv .1 .values ∙ made l .fresh .kept .1 .1 .0
+
+same-length-3 : tie.Need-same-length-3 Inv-loop μ-loop
+same-length-3 c = let l : tie.At-loop Inv-loop μ-loop = search needs in l .loop .inv .1 .variables ∙ made l .fresh .kept .1 .1 .1 .0
+
+same-length-4 : tie.Need-same-length-4 Inv-loop μ-loop
+same-length-4 c = let l : tie.At-loop Inv-loop μ-loop = search needs in l .loop .inv .1 .zct ∙ made l .fresh .kept .1 .1 .1 .1 .0
+
+same-length-5 : tie.Need-same-length-5 Inv-loop μ-loop
+same-length-5 c = let l : tie.At-loop Inv-loop μ-loop = search needs in l .loop .inv .1 .mrt ∙ made l .fresh .kept .1 .1 .1 .1 .1 .0
+
+same-length-6 : tie.Need-same-length-6 Inv-loop μ-loop
+same-length-6 c = let l : tie.At-loop Inv-loop μ-loop = search needs in l .loop .inv .1 .counts ∙ made l .fresh .kept .1 .1 .1 .1 .1 .1 .0
+
+same-length-7 : tie.Need-same-length-7 Inv-loop μ-loop
+same-length-7 c = let l : tie.At-loop Inv-loop μ-loop = search needs in l .loop .inv .1 .log ∙ made l .fresh .kept .1 .1 .1 .1 .1 .1 .1 .0
+
+same-length-8 : tie.Need-same-length-8 Inv-loop μ-loop
+same-length-8 c = let l : tie.At-loop Inv-loop μ-loop = search needs in l .loop .inv .1 .work ∙ made l .fresh .kept .1 .1 .1 .1 .1 .1 .1 .1 .0
+
+returns : tie.Need-returns Inv-loop μ-loop
+returns c = search needs
 
 pub run-spec : {M : Type 1} → statement M
 run-spec =
@@ -64,18 +140,26 @@ run-spec =
     (tie.spec
     Inv-loop
     μ-loop
+    fresh-requires
     new-requires
     loop-holds
     slice-aggregate-gather
     gather-requires
-    print-bad-requires
-    returns
     mul-words
     array-share-prefix-calls
-    slice-aggregate-close
-    close-requires
-    add-place
+    slice-aggregate-batch
+    slice-aggregate-batch-2
+    batch-requires
+    print-answers-requires
     loop-less
     loop-again
-    print-heap-requires
-    returns-2)
+    print-end-requires
+    same-length
+    same-length-2
+    same-length-3
+    same-length-4
+    same-length-5
+    same-length-6
+    same-length-7
+    same-length-8
+    returns)

@@ -1,14 +1,49 @@
-use mathlib.Core.Path.{refl, _∙_}
-use native.Mathlib.Omega.{arith}
-use Rattle.working.proofs.Steps.{reaches, shown, refused-as, few, able-now, few-both, worked-as}
-use Rattle.rules.proofs.Step.{needs-two}
-use Rattle.settle.proofs.Settling.{settleable}
+-- `working::step` meets its contract: the call that was found is refused, or settled first where it wants that, and done. Assumes nothing.
 use borrow.Author.Needs.{needs}
+use mathlib.Core.Path.{refl, _∙_}
+use Rattle.rules.proofs.Step.{needs-two}
+use Rattle.calls.proofs.Arms.{shown-of}
+use Rattle.settle.proofs.Settling.{settleable}
+use Rattle.working.proofs.Steps.{reaches, few, refused-as, grown, able-now, worked-as, same-call, no-call, found-fits, answered-call}
 use Rattle.working.proofs.step.Statement.{statement}
 use Rattle.working.proofs.step.Tie as tie
 
+-- where the function stands, looked back at from a later place
+abbrev start : tie.After-call-at → tie.Start
+start c = search needs
+
+abbrev decoded : tie.After-check → tie.After-call-at
+decoded c = search needs
+
+abbrev checked : tie.After-settle-if → tie.After-check
+checked c = search needs
+
+abbrev settled : tie.After-act → tie.After-settle-if
+settled c = search needs
+
+abbrev lent : tie.After-act → tie.After-kinds
+lent c = search needs
+
+call-at-requires : tie.Need-call-at-requires
+call-at-requires c κs = search needs
+
+enum-known-found : tie.Need-enum-known-found
+enum-known-found c = search needs
+
+enum-told : tie.Need-enum-told
+enum-told c = search needs
+
+returns : tie.Need-returns
+returns c =
+    let q : tie.After-call-at = search needs in
+    λ d h e S. no-call (c .enum-told .given .1) (q .call-at .ensures) e
+
 check-requires : tie.Need-check-requires
-check-requires c κs = let W = c .before .before .before .before .before .before .before .before .before .pre in reaches _ (W .fits) (W .standing)
+check-requires c κs =
+    let f : tie.After-found = search needs in
+    let q : tie.After-call-at = search needs in
+    let s = start q in
+    reaches (s .pre .standing) _ (found-fits (s .args .sizes .m) (s .args .words .now) (f .found .given .1) (q .call-at .ensures))
 
 same-length : tie.Need-same-length
 same-length c = search needs
@@ -19,72 +54,116 @@ same-length-2 c = search needs
 same-length-3 : tie.Need-same-length-3
 same-length-3 c = search needs
 
-returns : tie.Need-returns
-returns c = (omega arith, λ h S. refused-as _ _ S (c .before .check .ensures _ (shown S)) (c .if1 .taken) refl)
+returns-2 : tie.Need-returns-2
+returns-2 c =
+    let f : tie.After-found = search needs in
+    let q : tie.After-call-at = search needs in
+    λ d h e S. answered-call h (same-call (f .found .given .1) (q .call-at .ensures) e) (refused-as S _ _ (c .before .check .ensures _ (shown-of (S .whole))) (c .if1 .taken) refl)
 
 need-requires : tie.Need-need-requires
-need-requires c κs = let W = c .before .before .before .before .before .before .before .before .before .before .before .before .before .before .before .pre in reaches _ (W .fits) (W .standing)
+need-requires c κs =
+    let f : tie.After-found = search needs in
+    let q : tie.After-call-at = search needs in
+    let s = start q in
+    reaches (s .pre .standing) _ (found-fits (s .args .sizes .m) (s .args .words .now) (f .found .given .1) (q .call-at .ensures))
 
 settles-first-requires : tie.Need-settles-first-requires
 settles-first-requires c κs =
-    let s : tie.Start = search needs in
-    let W = s .pre in
-    (rw (c .need .ensures _ (shown (W .standing))) (needs-two (s .args .call) (W .heap .shape)), few (W .fine) (W .standing) .0)
-
-cast-cap : tie.Need-cast-cap
-cast-cap c = search needs
+    let f : tie.After-found = search needs in
+    let q : tie.After-call-at = search needs in
+    let S = start q .pre .standing in
+    (rw (c .need .ensures _ (shown-of (S .whole))) (needs-two (f .found .given .0 .0) (start q .pre .heap .shape)), few S .0)
 
 settle-if-requires : tie.Need-settle-if-requires
-settle-if-requires c κs = settleable (c .before .before .before .before .before .before .before .before .before .before .before .before .before .before .before .before .before .before .before .before .before .before .before .before .before .before .pre .standing .whole)
+settle-if-requires c κs =
+    let k : tie.After-check = search needs in
+    let s = start (decoded k) in
+    settleable (s .pre .standing .whole) (s .pre .few)
+
+sub-freed : tie.Need-sub-freed
+sub-freed c =
+    let m : tie.After-settle-if = search needs in
+    let t : tie.After-settles-first = search needs in
+    let n : tie.After-need = search needs in
+    let i : tie.Else1 = search needs in
+    let k = checked m in
+    let f : tie.After-found = search needs in
+    let q = decoded k in
+    let s = start q in
+    let fit = found-fits (s .args .sizes .m) (s .args .words .now) (f .found .given .1) (q .call-at .ensures) in
+    grown _ (k .check .ensures) (i .if1 .left) (n .need .ensures) (t .settles-first .ensures) (m .settle-if .ensures) fit (s .pre .standing)
 
 act-requires : tie.Need-act-requires
-act-requires c κs = able-now (c .before .before .before .before .before .before .before .before .before .before .before .before .before .before .before .before .before .before .before .before .before .before .before .before .before .before .before .before .before .before .before .before .before .before .before .before .before .before .before .before .before .before .before .before .pre) (c .before .before .before .before .before .before .before .before .before .before .before .before .before .before .before .before .before .before .before .before .before .before .before .before .before .before .before .before .before .before .before .before .before .before .check .ensures) (c .before .before .before .before .before .before .before .before .before .before .before .before .before .before .before .before .before .before .before .before .before .before .before .before .before .before .before .before .before .before .before .before .before .if1 .left) (c .before .before .before .before .before .before .before .before .before .before .before .before .before .before .before .before .before .before .before .before .before .before .before .before .before .before .before .before .need .ensures) (c .before .before .before .before .before .before .before .before .before .before .before .before .before .before .before .before .before .before .before .before .before .before .before .before .before .before .before .settles-first .ensures) (c .before .before .before .before .before .before .before .before .before .before .before .before .before .before .before .before .before .settle-if .ensures) (c .before .before .before .before .before .before .before .log .given)
-
-left-requires : tie.Need-left-requires
-left-requires c κs = few-both (c .before .before .before .before .before .before .before .before .before .before .before .before .before .before .before .before .before .before .before .before .before .before .before .before .before .before .before .before .before .before .before .before .before .before .before .before .before .before .before .before .before .before .before .before .before .before .before .before .before .before .before .pre) (c .before .before .before .before .before .before .before .before .before .before .before .before .before .before .before .before .before .before .before .before .before .before .before .before .before .before .before .before .before .before .before .before .before .before .before .before .before .before .before .before .before .check .ensures) (c .before .before .before .before .before .before .before .before .before .before .before .before .before .before .before .before .before .before .before .before .before .before .before .before .before .before .before .before .before .before .before .before .before .before .before .before .before .before .before .before .if1 .left) (c .before .before .before .before .before .before .before .before .before .before .before .before .before .before .before .before .before .before .before .before .before .before .before .before .before .before .before .before .before .before .before .before .before .before .before .need .ensures) (c .before .before .before .before .before .before .before .before .before .before .before .before .before .before .before .before .before .before .before .before .before .before .before .before .before .before .before .before .before .before .before .before .before .before .settles-first .ensures) (c .before .before .before .before .before .before .before .before .before .before .before .before .before .before .before .before .before .before .before .before .before .before .before .before .settle-if .ensures) (c .before .before .before .before .before .before .before .before .before .before .before .before .before .before .log .given)
+act-requires c κs =
+    let m : tie.After-settle-if = search needs in
+    let t : tie.After-settles-first = search needs in
+    let n : tie.After-need = search needs in
+    let i : tie.Else1 = search needs in
+    let k = checked m in
+    let f : tie.After-found = search needs in
+    let q = decoded k in
+    let s = start q in
+    let fit = found-fits (s .args .sizes .m) (s .args .words .now) (f .found .given .1) (q .call-at .ensures) in
+    able-now _ (k .check .ensures) (i .if1 .left) (n .need .ensures) (t .settles-first .ensures) (m .settle-if .ensures) fit (s .pre .standing)
 
 same-length-4 : tie.Need-same-length-4
-same-length-4 c = c .before .before .before .before .before .before .kinds2 .given ∙ c .before .before .before .before .before .before .before .before .before .before .before .before .before .before .before .before .before .before .before .before .before .before .before .before .kinds .given
+same-length-4 c =
+    let z : tie.After-kinds2 = search needs in
+    z .kinds2 .given ∙ lent (z .before) .kinds .given
 
 same-length-5 : tie.Need-same-length-5
-same-length-5 c = c .before .before .before .before .values2 .given ∙ c .before .before .before .before .before .before .before .before .before .before .before .before .before .before .before .before .before .before .before .before .before .before .values .given
+same-length-5 c = search needs
 
 same-length-6 : tie.Need-same-length-6
-same-length-6 c = c .before .before .before .variables .given
+same-length-6 c = search needs
 
 same-length-7 : tie.Need-same-length-7
-same-length-7 c = c .before .before .before .before .before .before .before .before .before .before .before .before .before .before .before .before .before .before .before .before .before .zct .given
+same-length-7 c = search needs
 
 same-length-8 : tie.Need-same-length-8
-same-length-8 c = c .before .before .before .before .before .before .before .before .before .before .before .before .before .before .before .before .before .before .before .mrt .given
+same-length-8 c = search needs
 
 same-length-9 : tie.Need-same-length-9
-same-length-9 c = c .before .before .before .before .before .before .before .before .before .before .before .before .before .before .before .before .before .counts .given
+same-length-9 c = search needs
 
 same-length-10 : tie.Need-same-length-10
-same-length-10 c = c .before .before .log2 .given ∙ c .before .before .before .before .before .before .before .before .before .before .before .before .before .before .before .log .given
+same-length-10 c = search needs
 
 same-length-11 : tie.Need-same-length-11
-same-length-11 c = c .before .before .before .before .before .before .before .before .before .before .before .before .before .work .given
+same-length-11 c = search needs
 
-returns-2 : tie.Need-returns-2
-returns-2 c = worked-as (c .before .before .before .before .before .before .before .before .before .before .before .before .before .before .before .before .before .before .before .before .before .before .before .before .before .before .before .before .before .before .before .before .before .before .before .before .before .before .before .before .before .before .before .before .before .before .before .before .before .before .before .before .pre) (c .before .before .before .before .before .before .before .before .before .before .before .before .before .before .before .before .before .before .before .before .before .before .before .before .before .before .before .before .before .before .before .before .before .before .before .before .before .before .before .before .before .before .check .ensures) (c .before .before .before .before .before .before .before .before .before .before .before .before .before .before .before .before .before .before .before .before .before .before .before .before .before .before .before .before .before .before .before .before .before .before .before .before .before .before .before .before .before .if1 .left) (c .before .before .before .before .before .before .before .before .before .before .before .before .before .before .before .before .before .before .before .before .before .before .before .before .before .before .before .before .before .before .before .before .before .before .before .before .need .ensures) (c .before .before .before .before .before .before .before .before .before .before .before .before .before .before .before .before .before .before .before .before .before .before .before .before .before .before .before .before .before .before .before .before .before .before .before .settles-first .ensures) (c .before .before .before .before .before .before .before .before .before .before .before .before .before .before .before .before .before .before .before .before .before .before .before .before .before .settle-if .ensures) (c .before .before .before .before .before .before .before .before .before .before .before .before .before .before .before .log .given) (c .before .before .before .before .before .before .before .act .ensures) (c .before .before .log2 .given) (c .left .ensures)
+returns-3 : tie.Need-returns-3
+returns-3 c =
+    let a : tie.After-act = search needs in
+    let m = settled a in
+    let t : tie.After-settles-first = search needs in
+    let n : tie.After-need = search needs in
+    let i : tie.Else1 = search needs in
+    let k = checked m in
+    let f : tie.After-found = search needs in
+    let q = decoded k in
+    let s = start q in
+    let fit = found-fits (s .args .sizes .m) (s .args .words .now) (f .found .given .1) (q .call-at .ensures) in
+    λ d h e S. answered-call h (same-call (f .found .given .1) (q .call-at .ensures) e) (worked-as _ (k .check .ensures) (i .if1 .left) (n .need .ensures) (t .settles-first .ensures) (m .settle-if .ensures) fit S (a .act .ensures))
 
 pub step-spec : {M : Type 1} → statement M
 step-spec =
     tie.close
     (tie.spec
+    call-at-requires
+    enum-known-found
+    enum-told
+    returns
     check-requires
     same-length
     same-length-2
     same-length-3
-    returns
+    returns-2
     need-requires
     settles-first-requires
-    cast-cap
     settle-if-requires
+    sub-freed
     act-requires
-    left-requires
     same-length-4
     same-length-5
     same-length-6
@@ -93,4 +172,4 @@ step-spec =
     same-length-9
     same-length-10
     same-length-11
-    returns-2)
+    returns-3)

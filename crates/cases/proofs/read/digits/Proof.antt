@@ -1,12 +1,12 @@
--- Nothing has to hold from turn to turn; the place nears the line's end.
-use Prim.Native.Nat.{_-_}
+-- The place is not before where it began; it nears the line's end.
+use Prim.Native.Nat.{_≤_, _-_}
 use borrow.Author.Needs.{needs}
 use lib.ListN.{length}
 use Rattle.cases.proofs.read.digits.Statement.{statement}
 use Rattle.cases.proofs.read.digits.Tie as tie
 
 abbrev Inv-loop : tie.InvT-loop
-Inv-loop line from minus at₀ size₀ at size = Unit {0}
+Inv-loop line from minus at₀ size₀ at size = from ≤ at
 
 abbrev μ-loop : tie.MeasureT-loop
 μ-loop line from minus at₀ size₀ at size = length line - at
