@@ -16,25 +16,23 @@ use Rattle.rules.specs.declared.Call.{Call}
 use Rattle.rules.specs.declared.Call.the-variants.{Settle}
 use Rattle.rules.specs.declared.Outcome.{Outcome}
 use Rattle.rules.specs.declared.Sizes.{Sizes}
+use Rattle.rules.specs.declared.State.{State}
 use Rattle.rules.specs.Heap.{Heap}
 use Rattle.rules.specs.Settle.{settled}
 use Rattle.rules.specs.Call.{Answer, callsOf, callsIn}
 use Rattle.rules.specs.Step.{step, calls}
 use Rattle.rules.specs.Rows.{Lent, rowsOf}
-use Rattle.rules.specs.Refusals.{answerWords, answered}
 use Rattle.rules.specs.Whole.{startOf}
+use Rattle.rules.specs.Refusals.{answerWords, answered}
 use Rattle.rules.proofs.Demand1.{words-long}
 use Rattle.rules.proofs.Whole.{rows-all, head-is}
 use Rattle.cells.proofs.Storing.{cell-lengths}
 use Rattle.words.specs.Words.{callAt}
 use Rattle.words.proofs.Listing.{listed}
 use Rattle.settle.specs.Settling.{Settled, Settles}
-use Rattle.working.specs.Working.{Standing, Runnable, Batched, Workable, Works, answering, Runs, endedAt}
 use Rattle.settle.proofs.Settling.{settled-whole}
+use Rattle.working.specs.Working.{Standing, Workable, Works, answering, Runnable, Batched, Runs, endedAt}
 use Rattle.working.proofs.Steps.{turn-call, turn-long, status-small}
-use Rattle.rules.specs.declared.State.{State}
-use Rattle.reclaim.specs.declared.Reclaimed.{Reclaimed}
-use Rattle.working.specs.declared.State.{State}
 use Rattle.calls.specs.declared.Worked.{Worked}
 
 -- ---- lengths

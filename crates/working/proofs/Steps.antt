@@ -13,6 +13,7 @@ use lib.Seq.{getD-take, getD-drop}
 use Rattle.rules.specs.declared.Call.{Call}
 use Rattle.rules.specs.declared.Call.the-variants.{New, Do, Settle}
 use Rattle.rules.specs.declared.Sizes.{Sizes}
+use Rattle.rules.specs.declared.State.{State}
 use Rattle.rules.specs.Heap.{Shape, Heap}
 use Rattle.rules.specs.Call.{Fits, check}
 use Rattle.rules.specs.Step.{Stepped, refused, needs, full, noneFree, wants, settledIf, takeCell, doNew, doDeed, acted, run, step}
@@ -28,7 +29,6 @@ use Rattle.calls.specs.Doing.{Able, Does}
 use Rattle.calls.proofs.Arms.{shown-of, able}
 use Rattle.settle.specs.Settling.{RoomMade, MakesRoom}
 use Rattle.working.specs.Working.{Standing, Answered}
-use Rattle.rules.specs.declared.State.{State}
 use Rattle.words.specs.declared.Decoded.{Decoded}
 use Rattle.words.specs.declared.Decoded.the-variants.{Is, Bad}
 use Rattle.calls.specs.declared.Worked.{Worked}

@@ -9,20 +9,15 @@ use Rattle.rules.specs.declared.Head.{Head}
 use Rattle.rules.specs.declared.Call.{Call}
 use Rattle.rules.specs.declared.Outcome.{Outcome}
 use Rattle.rules.specs.declared.Sizes.{Sizes}
+use Rattle.rules.specs.declared.State.{State}
 use Rattle.rules.specs.Heap.{Heap}
 use Rattle.rules.specs.Call.{callsIn}
-use Rattle.rules.specs.Step.{calls, Stepped, step}
+use Rattle.rules.specs.Step.{Stepped, step, calls}
 use Rattle.rules.specs.Rows.{Lent, rowsOf, headOf}
 use Rattle.rules.specs.Whole.{Whole, startOf}
 use Rattle.rules.specs.Refusals.{outcome, answered}
 use Rattle.rules.specs.Invariant.{Inv}
 use Rattle.words.specs.Words.{callAt}
-use Rattle.rules.specs.declared.State.{State}
-use Rattle.rules.specs.Step as rules
-use Rattle.calls.specs.declared.Acted.{Acted}
-use Rattle.settle.specs.declared.Room.{Room}
-use Rattle.working.specs.declared.State.{State}
-use Rattle.working.specs.declared.Worked.{Worked}
 use Rattle.calls.specs.declared.Worked.{Worked}
 
 -- all rows are the heap h, which has the invariant

@@ -2,13 +2,11 @@
 ghost use mathlib.Core.Path.{_≡_};
 ghost use Prim.Native.Nat.{_+_, _*_, _≤_};
 ghost use lib.ListN.{length};
-ghost use Rattle.rules.specs.declared.Call.{Call};
-ghost use Rattle.rules.specs.declared.Sizes.{Sizes};
 ghost use Rattle.rules.specs.Heap.{Heap};
 ghost use Rattle.rules.specs.Step.{needs, wants};
-ghost use Rattle.working.specs.Working.{Workable, Runnable, startOf, Works, answering, Runs, endedAt};
 ghost use Rattle.rules.specs.Whole.{startOf};
 ghost use Rattle.rules.specs.Lending.{rowsNow, entries, exits};
+ghost use Rattle.working.specs.Working.{Workable, Works, answering, Runnable, Runs, endedAt};
 use before::check;
 use before::need;
 use calls::Worked;
