@@ -1,6 +1,6 @@
 // The entry points: fresh, audit, batch. No requires, one outcome for each input.
 ghost use mathlib.Core.Path.{_≡_};
-ghost use Rattle.rules.specs.Rows.{lent};
+ghost use Rattle.rules.specs.Lending.{entries, exits};
 ghost use Rattle.rules.specs.Refusals.{leaves, leavesWith, freshOf, auditOf, batchOf};
 use audit::answer;
 use audit::sized;
@@ -25,8 +25,8 @@ pub fn fresh(
     work: &mut [u32],
 ) -> Outcome
     ensures { λ r.
-        ⌜ leaves r (lent (now (kinds .exit)) (now (values .exit)) (now (variables .exit)) (now (zct .exit)) (now (mrt .exit)) (now (counts .exit)) (now (log .exit)) (now (work .exit)))
-        ≡ freshOf sizes (lent (now (kinds .entry)) (now (values .entry)) (now (variables .entry)) (now (zct .entry)) (now (mrt .entry)) (now (counts .entry)) (now (log .entry)) (now (work .entry))) ⌝ }
+        ⌜ leaves r (exits kinds values variables zct mrt counts log work)
+        ≡ freshOf sizes (entries kinds values variables zct mrt counts log work) ⌝ }
 {
     let head = Head::fresh(sizes);
     if !sized(
@@ -42,17 +42,7 @@ pub fn fresh(
     ) {
         return answer(1, Head::fresh(Sizes::plain(0, 0, 0, 0)));
     }
-    fresh_rows(
-        kinds,
-        values,
-        variables,
-        zct,
-        mrt,
-        counts,
-        log,
-        work,
-        sizes.n,
-    );
+    fresh_rows(kinds, values, variables, zct, mrt, counts, log, work, sizes);
     answer(0, head)
 }
 
@@ -69,8 +59,8 @@ pub fn audit(
     work: &mut [u32],
 ) -> Outcome
     ensures { λ r.
-        ⌜ leaves r (lent (now (kinds .exit)) (now (values .exit)) (now (variables .exit)) (now (zct .exit)) (now (mrt .exit)) (now (counts .exit)) (now (log .exit)) (now (work .exit)))
-        ≡ auditOf head (lent (now (kinds .entry)) (now (values .entry)) (now (variables .entry)) (now (zct .entry)) (now (mrt .entry)) (now (counts .entry)) (now (log .entry)) (now (work .entry))) ⌝ }
+        ⌜ leaves r (exits kinds values variables zct mrt counts log work)
+        ≡ auditOf head (entries kinds values variables zct mrt counts log work) ⌝ }
 {
     audit::audit(head, kinds, values, variables, zct, mrt, counts, log, work)
 }
@@ -90,8 +80,8 @@ pub fn batch(
     answers: &mut [i32],
 ) -> Outcome
     ensures { λ r.
-        ⌜ leavesWith r (lent (now (kinds .exit)) (now (values .exit)) (now (variables .exit)) (now (zct .exit)) (now (mrt .exit)) (now (counts .exit)) (now (log .exit)) (now (work .exit))) (now (answers .exit))
-        ≡ batchOf head (lent (now (kinds .entry)) (now (values .entry)) (now (variables .entry)) (now (zct .entry)) (now (mrt .entry)) (now (counts .entry)) (now (log .entry)) (now (work .entry))) (now (calls .entry)) (now (answers .entry)) ⌝ }
+        ⌜ leavesWith r (exits kinds values variables zct mrt counts log work) (now (answers .exit))
+        ≡ batchOf head (entries kinds values variables zct mrt counts log work) (now (calls .entry)) (now (answers .entry)) ⌝ }
 {
     if !sized(
         head,
