@@ -173,11 +173,13 @@ module _ (s : Sizes) (ok : Limits s) (sh : Shape) (t : Tables) (g : Good (s .n) 
       at b =
           let e0 = refs-store (sh .fields) a f b Nothing (place-in (s .n) (sh .fields) (g .len) a f h l) in
           let e1 = refs-store (sh .fields) a f b x (place-in (s .n) (sh .fields) (g .len) a f h l) in
-          gain-counted (s .cap) (ok .cap-least) x {r = refs (store (sh .fields) a f Nothing) b} (omega arith) (p b) (drop-counted (s .cap) (ok .cap-least) (field (sh .fields) a f) (omega arith) (g .counted b))
+          gain-counted (s .cap) (ok .cap-least) x {r = refs (store (sh .fields) a f Nothing) b} (omega arith) (p b)
+          (drop-counted (s .cap) (ok .cap-least) (field (sh .fields) a f) (omega arith) (g .counted b))
 
   -- ---- the deeds
 
-  write-good : (v f : ℕ) (x : Field) → f < 2 → want (isHeld (var sh v)) 11 ≡ 0 → used x ≡ true → ((b : ℕ) → hit x b ≡ 1 → live (sh .fields) b ≡ true) → Stays (write sh v f x) (drops (at sh v f) ++ gains x)
+  write-good : (v f : ℕ) (x : Field) → f < 2 → want (isHeld (var sh v)) 11 ≡ 0 → used x ≡ true → ((b : ℕ) → hit x b ≡ 1 → live (sh .fields) b ≡ true)
+      → Stays (write sh v f x) (drops (at sh v f) ++ gains x)
   unfolding write at
   write-good v f x h c u p = let w = held-11 (var sh v) c in rw (w .1, at, write) (store-good (w .0) f x h (var-live v (w .0) (w .1)) u p)
 

@@ -156,7 +156,8 @@ module _ {h : Head} {r : Lent} (Z : Sized h r) (S : Sound h r) (v : ℕ) (k : v 
     unfolding takeCell hold heapOf
     new-holds =
         let ok = Z .within .limits in
-        let I : Inv (h .sizes) (takeCell v (heapOf h r)) = subst (λ (o : Stepped). Inv (h .sizes) (o .heap)) new-taken (step-inv (h .sizes) ok (New v) (heapOf h r) ((entry-ended Z S) .inv) (fit .0)) in
+        let I : Inv (h .sizes) (takeCell v (heapOf h r)) =
+        subst (λ (o : Stepped). Inv (h .sizes) (o .heap)) new-taken (step-inv (h .sizes) ok (New v) (heapOf h r) ((entry-ended Z S) .inv) (fit .0)) in
         let e = settled-done (h .sizes) ok (takeCell v (heapOf h r)) I .1 .1 in
         let long : v < length (heapOf h r .shape .variables) = let g = (entry-ended Z S) .inv .variables-long in omega arith in
         rw (new-heap, e) (getD-set-same (heapOf h r .shape .variables) v (some (h .free)) none long)

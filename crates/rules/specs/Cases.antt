@@ -108,7 +108,13 @@ sameRows r q =
 
 abbrev pub sameHead : Head → Head → Bool
 sameHead h k =
-    eqb (h .sizes .n) (k .sizes .n) && eqb (h .sizes .m) (k .sizes .m) && eqb (h .sizes .l) (k .sizes .l) && eqb (h .sizes .cap) (k .sizes .cap) && eqb (h .free) (k .free) && eqb (h .zct) (k .zct) && eqb (h .mrt) (k .mrt)
+    eqb (h .sizes .n) (k .sizes .n)
+    && eqb (h .sizes .m) (k .sizes .m)
+    && eqb (h .sizes .l) (k .sizes .l)
+    && eqb (h .sizes .cap) (k .sizes .cap)
+    && eqb (h .free) (k .free)
+    && eqb (h .zct) (k .zct)
+    && eqb (h .mrt) (k .mrt)
 
 abbrev pub holdsOf : ℕ → Batched → Claim → Bool
 holdsOf n o accepted = eqb (o .outcome .status) 0

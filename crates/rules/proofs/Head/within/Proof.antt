@@ -16,7 +16,13 @@ returns c =
     isn't (λ s. w .within .ensures .no (not-true (w .within .result) (c .if1 .taken)) (s .limits))
 
 returns-2 : tie.Need-returns-2
-returns-2 c = isn't (λ s. let u = s .free-most in let v = s .zct-most in let x = s .mrt-most in ⊎-elim (λ w. omega (arith, ltb-true)) (λ w. ⊎-elim (λ y. omega (arith, ltb-true)) (λ y. omega (arith, ltb-true)) w) (c .if2 .came))
+returns-2 c =
+    isn't
+    (λ s.
+    let u = s .free-most in
+    let v = s .zct-most in
+    let x = s .mrt-most in
+    ⊎-elim (λ w. omega (arith, ltb-true)) (λ w. ⊎-elim (λ y. omega (arith, ltb-true)) (λ y. omega (arith, ltb-true)) w) (c .if2 .came))
 
 returns-3 : tie.Need-returns-3
 returns-3 c =
