@@ -362,7 +362,8 @@ module _ (s : Sizes) (ok : Fine s) where
       }
   did Settle k h g f d ρ e R n = record { status-same = refl; value-same′ = λ k. absurd k; renamed = (ρ, R) }
 
-  ran : (c : Call) (h : Heap) → Inv s h → Fits (s .m) c → check c (h .shape) ≡ 0 → (ρ : ℕ → ℕ) (e : Endless) → Sim ρ (h .shape) e → ¬ (run s c h .answer .status ≡ 14) → Agree c (run s c h) (endlessRun c e)
+  ran : (c : Call) (h : Heap) → Inv s h → Fits (s .m) c → check c (h .shape) ≡ 0 → (ρ : ℕ → ℕ) (e : Endless) → Sim ρ (h .shape) e
+      → ¬ (run s c h .answer .status ≡ 14) → Agree c (run s c h) (endlessRun c e)
   unfolding run
   ran c h g f d ρ e R n = let k = settledFor s c h in did c (k .freed - h .freed) k (for-inv s ok c h g) f (for-right s ok c h g d) ρ e (sim-for c h g ρ e R) n
 

@@ -148,7 +148,8 @@ module _ {s : Sizes} (F : Fine s) {h : Heap} (I : Inv s h) (c : Call) (fit : Fit
       able c W (rw m fit) (rw wanted (for-right s F c h I ok)) (rw long (omega arith))
 
   -- the call is done
-  module _ {ks′ : List ℕ} {xs′ vs′ : List ℤ} {log′ : List ℕ} {a : Acted} (D : Did (s .n) (s .cap) ks′ xs′ vs′ zs ms cs log′ work (r .used) a (acted s c (r .freed) (settledIf make s (h .shape .variables) h)))
+  module _ {ks′ : List ℕ} {xs′ vs′ : List ℤ} {log′ : List ℕ} {a : Acted}
+      (D : Did (s .n) (s .cap) ks′ xs′ vs′ zs ms cs log′ work (r .used) a (acted s c (r .freed) (settledIf make s (h .shape .variables) h)))
       (long′ : length log′ ≡ 2 * s .l) {freed : ℕ} (so-far : freed ≡ h .freed) where
     answered-as : Answered s ks′ xs′ vs′ zs ms cs log′ work (leftBy r a freed) (step s c h)
     unfolding k
