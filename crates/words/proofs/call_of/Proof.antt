@@ -1,4 +1,4 @@
-use mathlib.Core.Path.{refl, ap, ap₂}
+use mathlib.Core.Path.{_≡_, refl, ap, ap₂}
 use mir.Facts.{toZ-ofZ}
 use Rattle.rules.specs.declared.Call.the-variants.{New, Do}
 use Rattle.rules.specs.declared.Deed.the-variants.{Copy, Clear, Link, Put, Blank, Follow, Read, Same}
@@ -7,6 +7,16 @@ use Rattle.words.proofs.Words.{same, word, unused, any-figure, all-are,
 use borrow.Author.Needs.{needs}
 use Rattle.words.proofs.call_of.Statement.{statement}
 use Rattle.words.proofs.call_of.Tie as tie
+
+-- the numbers that the three words are
+first : (n : tie.After-address3) → n .before .before .address .result ≡ number (n .before .before .before .args .a)
+first n = same number (n .before .before .before .fits .a) (n .before .before .address .ensures)
+
+second : (n : tie.After-address3) → n .before .address2 .result ≡ number (n .before .before .before .args .b)
+second n = same number (n .before .before .before .fits .b) (n .before .address2 .ensures)
+
+third : (n : tie.After-address3) → n .address3 .result ≡ number (n .before .before .before .args .c)
+third n = same number (n .before .before .before .fits .c) (n .address3 .ensures)
 
 address-requires : tie.Need-address-requires
 address-requires c κs = search needs
@@ -83,7 +93,7 @@ returns c =
     let n = c .before .before .before in
     let f = n .before .before .before .fits in
     rw (op-is 1 (f .op) (c .before .before .match .keys1))
-    (given-are (c .given .ensures) (all-are (c .before .below .ensures) (word _ (f .a)) (unused (f .b)) (unused (f .c))) (ap New (same number (f .a) (n .before .before .address .ensures))))
+    (given-are (c .given .ensures) (all-are (c .before .below .ensures) (word _ (f .a)) (unused (f .b)) (unused (f .c))) (ap New (first n)))
 
 returns-2 : tie.Need-returns-2
 unfolding callOf
@@ -91,7 +101,7 @@ returns-2 c =
     let n = c .before .before .before in
     let f = n .before .before .before .fits in
     rw (op-is 2 (f .op) (c .before .before .match .keys2))
-    (given-are (c .given2 .ensures) (all-are (c .before .below2 .ensures) (word _ (f .a)) (word _ (f .b)) (unused (f .c))) (ap₂ (λ v w. Do (Copy v w)) (same number (f .a) (n .before .before .address .ensures)) (same number (f .b) (n .before .address2 .ensures))))
+    (given-are (c .given2 .ensures) (all-are (c .before .below2 .ensures) (word _ (f .a)) (word _ (f .b)) (unused (f .c))) (ap₂ (λ v w. Do (Copy v w)) (first n) (second n)))
 
 returns-3 : tie.Need-returns-3
 unfolding callOf
@@ -99,7 +109,7 @@ returns-3 c =
     let n = c .before .before .before in
     let f = n .before .before .before .fits in
     rw (op-is 3 (f .op) (c .before .before .match .keys3))
-    (given-are (c .given3 .ensures) (all-are (c .before .below3 .ensures) (word _ (f .a)) (unused (f .b)) (unused (f .c))) (ap (λ v. Do (Clear v)) (same number (f .a) (n .before .before .address .ensures))))
+    (given-are (c .given3 .ensures) (all-are (c .before .below3 .ensures) (word _ (f .a)) (unused (f .b)) (unused (f .c))) (ap (λ v. Do (Clear v)) (first n)))
 
 returns-4 : tie.Need-returns-4
 unfolding callOf
@@ -107,7 +117,7 @@ returns-4 c =
     let n = c .before .before .before in
     let f = n .before .before .before .fits in
     rw (op-is 4 (f .op) (c .before .before .match .keys4))
-    (given-are (c .given4 .ensures) (all-are (c .before .below4 .ensures) (word _ (f .a)) (word _ (f .b)) (word _ (f .c))) (ap-three (λ v f w. Do (Link v f w)) (same number (f .a) (n .before .before .address .ensures)) (same number (f .b) (n .before .address2 .ensures)) (same number (f .c) (n .address3 .ensures))))
+    (given-are (c .given4 .ensures) (all-are (c .before .below4 .ensures) (word _ (f .a)) (word _ (f .b)) (word _ (f .c))) (ap-three (λ v f w. Do (Link v f w)) (first n) (second n) (third n)))
 
 returns-5 : tie.Need-returns-5
 unfolding callOf
@@ -115,7 +125,8 @@ returns-5 c =
     let n = c .before .before .before in
     let f = n .before .before .before .fits in
     rw (op-is 5 (f .op) (c .before .before .match .keys5))
-    (given-are (c .given5 .ensures) (all-are (c .before .below5 .ensures) (word _ (f .a)) (word _ (f .b)) (any-figure _ (f .c))) (ap-three (λ v f x. Do (Put v f x)) (same number (f .a) (n .before .before .address .ensures)) (same number (f .b) (n .before .address2 .ensures)) (toZ-ofZ (f .c))))
+    (given-are (c .given5 .ensures) (all-are (c .before .below5 .ensures) (word _ (f .a)) (word _ (f .b)) (any-figure _ (f .c)))
+    (ap-three (λ v f x. Do (Put v f x)) (first n) (second n) (toZ-ofZ (f .c))))
 
 returns-6 : tie.Need-returns-6
 unfolding callOf
@@ -123,7 +134,7 @@ returns-6 c =
     let n = c .before .before .before in
     let f = n .before .before .before .fits in
     rw (op-is 6 (f .op) (c .before .before .match .keys6))
-    (given-are (c .given6 .ensures) (all-are (c .before .below6 .ensures) (word _ (f .a)) (word _ (f .b)) (unused (f .c))) (ap₂ (λ v f. Do (Blank v f)) (same number (f .a) (n .before .before .address .ensures)) (same number (f .b) (n .before .address2 .ensures))))
+    (given-are (c .given6 .ensures) (all-are (c .before .below6 .ensures) (word _ (f .a)) (word _ (f .b)) (unused (f .c))) (ap₂ (λ v f. Do (Blank v f)) (first n) (second n)))
 
 returns-7 : tie.Need-returns-7
 unfolding callOf
@@ -131,7 +142,7 @@ returns-7 c =
     let n = c .before .before .before in
     let f = n .before .before .before .fits in
     rw (op-is 7 (f .op) (c .before .before .match .keys7))
-    (given-are (c .given7 .ensures) (all-are (c .before .below7 .ensures) (word _ (f .a)) (word _ (f .b)) (word _ (f .c))) (ap-three (λ v f w. Do (Follow v f w)) (same number (f .a) (n .before .before .address .ensures)) (same number (f .b) (n .before .address2 .ensures)) (same number (f .c) (n .address3 .ensures))))
+    (given-are (c .given7 .ensures) (all-are (c .before .below7 .ensures) (word _ (f .a)) (word _ (f .b)) (word _ (f .c))) (ap-three (λ v f w. Do (Follow v f w)) (first n) (second n) (third n)))
 
 returns-8 : tie.Need-returns-8
 unfolding callOf
@@ -139,7 +150,7 @@ returns-8 c =
     let n = c .before .before .before in
     let f = n .before .before .before .fits in
     rw (op-is 8 (f .op) (c .before .before .match .keys8))
-    (given-are (c .given8 .ensures) (all-are (c .before .below8 .ensures) (word _ (f .a)) (word _ (f .b)) (unused (f .c))) (ap₂ (λ v f. Do (Read v f)) (same number (f .a) (n .before .before .address .ensures)) (same number (f .b) (n .before .address2 .ensures))))
+    (given-are (c .given8 .ensures) (all-are (c .before .below8 .ensures) (word _ (f .a)) (word _ (f .b)) (unused (f .c))) (ap₂ (λ v f. Do (Read v f)) (first n) (second n)))
 
 returns-9 : tie.Need-returns-9
 unfolding callOf
@@ -147,7 +158,7 @@ returns-9 c =
     let n = c .before .before .before in
     let f = n .before .before .before .fits in
     rw (op-is 9 (f .op) (c .before .before .match .keys9))
-    (given-are (c .given9 .ensures) (all-are (c .before .below9 .ensures) (word _ (f .a)) (word _ (f .b)) (unused (f .c))) (ap₂ (λ v w. Do (Same v w)) (same number (f .a) (n .before .before .address .ensures)) (same number (f .b) (n .before .address2 .ensures))))
+    (given-are (c .given9 .ensures) (all-are (c .before .below9 .ensures) (word _ (f .a)) (word _ (f .b)) (unused (f .c))) (ap₂ (λ v w. Do (Same v w)) (first n) (second n)))
 
 returns-10 : tie.Need-returns-10
 unfolding callOf
