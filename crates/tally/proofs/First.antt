@@ -2,11 +2,11 @@
 use Prim.Native.Nat.{ℕ}
 use mathlib.Core.Path.{_≡_, sym, _∙_}
 use mathlib.Core.List.{List}
-use Rattle.rules.specs.Head.{Limits, freshHead, sized}
+use Rattle.rules.specs.Head.{Limits, sized}
 use Rattle.script.specs.declared.Line.{Line}
 use Rattle.script.specs.declared.Line.the-variants.{Heap}
 use Rattle.script.specs.Line.{headLineOf}
 use Rattle.script.proofs.Meaning.{first-says}
 
-pub within : {x : Line} {n m l cap : ℕ} (bs : List ℕ) → x ≡ headLineOf bs → x ≡ Heap n m l cap → Limits (freshHead (sized n m l cap))
+pub within : {x : Line} {n m l cap : ℕ} (bs : List ℕ) → x ≡ headLineOf bs → x ≡ Heap n m l cap → Limits (sized n m l cap)
 within bs e h = rw (sym e ∙ h) at (first-says bs)

@@ -2,7 +2,7 @@
 ghost use mathlib.Core.Path.{_≡_};
 ghost use Prim.Native.Nat.{_+_, _<_, _≤_};
 ghost use lib.ListN.{length};
-ghost use Rattle.rules.specs.Head.{Limits, freshHead};
+ghost use Rattle.rules.specs.Head.{Limits};
 ghost use Rattle.tally.specs.Place.{Gathered};
 use libc::STDIN_FILENO;
 use reader::Read;
@@ -288,7 +288,7 @@ fn run(
 
 // A script after its heap line: each row is lent at its length.
 fn start(text: &[u8], next: usize, sizes: Sizes)
-    requires { ⌜ Limits (freshHead sizes) ⌝ }
+    requires { ⌜ Limits sizes ⌝ }
 {
     let n = sizes.n;
     let m = sizes.m;
