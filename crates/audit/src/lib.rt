@@ -3,6 +3,7 @@ ghost use mathlib.Core.Path.{_≡_};
 ghost use Prim.Native.Nat.{_≤_};
 ghost use lib.ListN.{length, replicate};
 ghost use Rattle.rules.specs.Head.{Says, Within};
+ghost use Rattle.rules.specs.Rows.{rowLengths};
 ghost use Rattle.rules.specs.Lending.{tablesNow, tableEntries, rowsNow, entries, exits};
 ghost use Rattle.rules.specs.Sound.{CellsSound, TablesSound, FreeList, pointersTo, Agree, ZctHeld, Lengths, Sized, Sound};
 ghost use Rattle.rules.specs.Refusals.{outcome, leaves, auditOf};
@@ -166,7 +167,7 @@ pub fn sized(
     log: usize,
     work: usize,
 ) -> bool
-    ensures { λ r. ⌜ Says r (Within head × Lengths head kinds values variables zct mrt counts log work) ⌝ }
+    ensures { λ r. ⌜ Says r (Within head × Lengths (head .sizes) (rowLengths kinds values variables zct mrt counts log work)) ⌝ }
 {
     if !head.within() {
         return false;

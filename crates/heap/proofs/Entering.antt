@@ -15,7 +15,7 @@ use Rattle.rules.specs.declared.Sizes.{Sizes}
 use Rattle.rules.specs.Head.{Says, sized, freshHead, Within}
 use Rattle.rules.specs.Call.{callsIn}
 use Rattle.rules.specs.Step.{batch, fresh}
-use Rattle.rules.specs.Rows.{Lent, rowsOf, heapOf}
+use Rattle.rules.specs.Rows.{Lent, lengthsOf, rowsOf, heapOf}
 use Rattle.rules.specs.Whole.{startOf}
 use Rattle.rules.specs.Sound.{Sound, Sized, Lengths}
 use Rattle.rules.specs.Refusals.{outcome, leaves, leavesWith, cleared, accepted, freshOf, batchOf}
@@ -54,8 +54,7 @@ short-of m ws row ds e l = let n = listed m ws ds e .long in omega arith
 
 -- the check of the sizes, of rows r
 abbrev Checked : Bool → Head → Lent → Type 0
-Checked fits h r =
-    Says fits (Within h × Lengths h (length (r .kinds)) (length (r .values)) (length (r .variables)) (length (r .tables .zct)) (length (r .tables .mrt)) (length (r .tables .counts)) (length (r .log)) (length (r .work)))
+Checked fits h r = Says fits (Within h × Lengths (h .sizes) (lengthsOf r))
 
 -- the rows with another work row
 abbrev scratched : List ℕ → Lent → Lent

@@ -13,7 +13,7 @@ use Rattle.rules.specs.declared.Head.{Head}
 use Rattle.rules.specs.declared.Sizes.{Sizes}
 use Rattle.rules.specs.Head.{Limits, Within}
 use Rattle.rules.specs.Field.{addressOf}
-use Rattle.rules.specs.Rows.{TableRows, Lent}
+use Rattle.rules.specs.Rows.{TableRows, Lent, RowLengths, lengthsOf}
 use Rattle.rules.specs.Sound.{kind, word, mark, Live, Mark, Word, Words, Variables, CellsSound, ZeroFrom, TableRow, CountsRow, TablesSound, next, FreePath, listFrom, times, FreeList, pointersTo, heldAmong, NotIn, Agree, ZctHeld, Sound, Lengths, Sized}
 
 -- ---- ways to decide
@@ -306,16 +306,16 @@ dec-within h =
     need (decLe (h .mrt) (h .sizes .n)) (λ w. w .mrt-most) (λ mrt-most.
     yes (record { limits = limits; free-most = free-most; zct-most = zct-most; mrt-most = mrt-most })))))
 
-abbrev dec-lengths : (h : Head) (kinds values variables zct mrt counts log work : ℕ) → Dec (Lengths h kinds values variables zct mrt counts log work)
-dec-lengths h kinds values variables zct mrt counts log work =
-    need (ℕ-discrete kinds (2 * h .sizes .n)) (λ l. l .for-kinds) (λ for-kinds.
-    need (ℕ-discrete values (2 * h .sizes .n)) (λ l. l .for-values) (λ for-values.
-    need (ℕ-discrete variables (h .sizes .m)) (λ l. l .for-variables) (λ for-variables.
-    need (ℕ-discrete zct (h .sizes .n)) (λ l. l .for-zct) (λ for-zct.
-    need (ℕ-discrete mrt (h .sizes .n)) (λ l. l .for-mrt) (λ for-mrt.
-    need (ℕ-discrete counts (h .sizes .n)) (λ l. l .for-counts) (λ for-counts.
-    need (ℕ-discrete log (2 * h .sizes .l)) (λ l. l .for-log) (λ for-log.
-    need (ℕ-discrete work (h .sizes .n)) (λ l. l .for-work) (λ for-work.
+abbrev dec-lengths : (s : Sizes) (l : RowLengths) → Dec (Lengths s l)
+dec-lengths s l =
+    need (ℕ-discrete (l .kinds) (2 * s .n)) (λ z. z .for-kinds) (λ for-kinds.
+    need (ℕ-discrete (l .values) (2 * s .n)) (λ z. z .for-values) (λ for-values.
+    need (ℕ-discrete (l .variables) (s .m)) (λ z. z .for-variables) (λ for-variables.
+    need (ℕ-discrete (l .zct) (s .n)) (λ z. z .for-zct) (λ for-zct.
+    need (ℕ-discrete (l .mrt) (s .n)) (λ z. z .for-mrt) (λ for-mrt.
+    need (ℕ-discrete (l .counts) (s .n)) (λ z. z .for-counts) (λ for-counts.
+    need (ℕ-discrete (l .log) (2 * s .l)) (λ z. z .for-log) (λ for-log.
+    need (ℕ-discrete (l .work) (s .n)) (λ z. z .for-work) (λ for-work.
     yes
     (record {
       for-kinds = for-kinds;
@@ -332,5 +332,5 @@ dec-lengths h kinds values variables zct mrt counts log work =
 unfoldable pub sized? : (h : Head) (r : Lent) → Dec (Sized h r)
 sized? h r =
     need (dec-within h) (λ z. z .within) (λ within.
-    need (dec-lengths h _ _ _ _ _ _ _ _) (λ z. z .lengths) (λ lengths.
+    need (dec-lengths (h .sizes) (lengthsOf r)) (λ z. z .lengths) (λ lengths.
     yes (record { within = within; lengths = lengths })))

@@ -39,6 +39,26 @@ pub record Lent : Type 0 where
   pub log : List ℕ
   pub work : List ℕ
 
+-- how long the rows are, in elements
+pub record RowLengths : Type 0 where
+  pub kinds : ℕ
+  pub values : ℕ
+  pub variables : ℕ
+  pub zct : ℕ
+  pub mrt : ℕ
+  pub counts : ℕ
+  pub log : ℕ
+  pub work : ℕ
+
+abbrev pub rowLengths : ℕ → ℕ → ℕ → ℕ → ℕ → ℕ → ℕ → ℕ → RowLengths
+rowLengths kinds values variables zct mrt counts log work =
+    record { kinds = kinds; values = values; variables = variables; zct = zct; mrt = mrt; counts = counts; log = log; work = work }
+
+abbrev pub lengthsOf : Lent → RowLengths
+lengthsOf r =
+    let t = r .tables in
+    rowLengths (length (r .kinds)) (length (r .values)) (length (r .variables)) (length (t .zct)) (length (t .mrt)) (length (t .counts)) (length (r .log)) (length (r .work))
+
 -- those of the cells and tables among them
 abbrev pub heapRows : Lent → HeapRows
 heapRows r = record { kinds = r .kinds; values = r .values; tables = r .tables }

@@ -7,9 +7,10 @@ use lib.Dec.{eqb}
 use lib.ListN.{length, getD}
 use lib.IntN.{ℤ, pos, negsuc}
 use Rattle.rules.specs.declared.Head.{Head}
+use Rattle.rules.specs.declared.Sizes.{Sizes}
 use Rattle.rules.specs.Head.{Within}
 use Rattle.rules.specs.Field.{Signed32, addressOf}
-use Rattle.rules.specs.Rows.{TableRows, Lent}
+use Rattle.rules.specs.Rows.{TableRows, Lent, RowLengths, lengthsOf}
 
 -- ---- kinds and values
 
@@ -171,23 +172,17 @@ pub record Sound (h : Head) (r : Lent) : Type 0 where
   pub log-zero : ZeroFrom (r .log) 0
 
 -- exact lengths in elements
-pub record Lengths (h : Head) (kinds values variables zct mrt counts log work : ℕ) : Type 0 where
-  pub for-kinds : kinds ≡ 2 * h .sizes .n
-  pub for-values : values ≡ 2 * h .sizes .n
-  pub for-variables : variables ≡ h .sizes .m
-  pub for-zct : zct ≡ h .sizes .n
-  pub for-mrt : mrt ≡ h .sizes .n
-  pub for-counts : counts ≡ h .sizes .n
-  pub for-log : log ≡ 2 * h .sizes .l
-  pub for-work : work ≡ h .sizes .n
-
--- of the rows that are lent
-abbrev pub LengthsOf : Head → Lent → Type 0
-LengthsOf h r =
-    Lengths h (length (r .kinds)) (length (r .values)) (length (r .variables)) (length (r .tables .zct)) (length (r .tables .mrt)) (length (r .tables .counts))
-    (length (r .log)) (length (r .work))
+pub record Lengths (s : Sizes) (l : RowLengths) : Type 0 where
+  pub for-kinds : l .kinds ≡ 2 * s .n
+  pub for-values : l .values ≡ 2 * s .n
+  pub for-variables : l .variables ≡ s .m
+  pub for-zct : l .zct ≡ s .n
+  pub for-mrt : l .mrt ≡ s .n
+  pub for-counts : l .counts ≡ s .n
+  pub for-log : l .log ≡ 2 * s .l
+  pub for-work : l .work ≡ s .n
 
 -- the head's numbers and the rows' lengths are as above
 pub record Sized (h : Head) (r : Lent) : Type 0 where
   pub within : Within h
-  pub lengths : LengthsOf h r
+  pub lengths : Lengths (h .sizes) (lengthsOf r)

@@ -21,7 +21,8 @@ use Rattle.rules.specs.Heap.{Heap}
 use Rattle.rules.specs.Settle.{settled}
 use Rattle.rules.specs.Call.{Answer, callsOf, callsIn}
 use Rattle.rules.specs.Step.{step, calls}
-use Rattle.rules.specs.Rows.{Lent, rowsOf}
+use Rattle.rules.specs.Rows.{Lent, lengthsOf, rowsOf}
+use Rattle.rules.specs.Sound.{Lengths}
 use Rattle.rules.specs.Whole.{startOf}
 use Rattle.rules.specs.Refusals.{answerWords, answered}
 use Rattle.rules.proofs.Demand1.{words-long}
@@ -38,30 +39,20 @@ use Rattle.calls.specs.declared.Worked.{Worked}
 -- ---- lengths
 
 -- the lengths of rows that are a heap's
-pub record Long (s : Sizes) (r : Lent) : Type 0 where
-  pub kinds : length (r .kinds) ≡ 2 * s .n
-  pub values : length (r .values) ≡ 2 * s .n
-  pub variables : length (r .variables) ≡ s .m
-  pub zct : length (r .tables .zct) ≡ s .n
-  pub mrt : length (r .tables .mrt) ≡ s .n
-  pub counts : length (r .tables .counts) ≡ s .n
-  pub log : length (r .log) ≡ 2 * s .l
-  pub work : length (r .work) ≡ s .n
-
-pub long-of : {s : Sizes} {r : Lent} {at : State} {h : Heap} → Standing s r at h → Long s r
+pub long-of : {s : Sizes} {r : Lent} {at : State} {h : Heap} → Standing s r at h → Lengths s (lengthsOf r)
 long-of S =
     let W = S .whole in
     let l = cell-lengths (W .rows .cells) in
     let A = W .rows .ready .are in
     record {
-      kinds = l .0;
-      values = l .1;
-      variables = rw (W .variables-are) (simp length-map (S .inv .variables-long));
-      zct = A .zct-is .long;
-      mrt = A .mrt-is .long;
-      counts = A .counts-is .long;
-      log = W .log-long;
-      work = W .work-long;
+      for-kinds = l .0;
+      for-values = l .1;
+      for-variables = rw (W .variables-are) (simp length-map (S .inv .variables-long));
+      for-zct = A .zct-is .long;
+      for-mrt = A .mrt-is .long;
+      for-counts = A .counts-is .long;
+      for-log = W .log-long;
+      for-work = W .work-long;
     }
 
 -- ---- the loop

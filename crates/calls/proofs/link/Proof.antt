@@ -17,9 +17,9 @@ add-entry-requires : tie.Need-add-entry-requires
 add-entry-requires c κs =
     let s : tie.Start = search needs in
     let b : tie.After-held = search needs in
-    let w : tie.After-write = search needs in
+    let d : tie.After-write = search needs in
     let p = s .pre in
-    let g = w .write .ensures (p .shape) (p .list) (p .shown) (p .logged) .logged in
+    let g = d .write .ensures (p .shape) (p .list) (p .shown) (p .logged) .logged in
     (link-room p (b .held .ensures) g (search needs), search needs)
 
 same-length : tie.Need-same-length

@@ -120,55 +120,55 @@ same-length c =
     let y : tie.After-kinds2 Inv-loop μ-loop = search needs in
     let d : tie.After-settle Inv-loop μ-loop = search needs in
     let G = done d .before .loop .inv in
-    y .kinds2 .given ∙ long-of (now-at G .standing) .kinds ∙ sym (long-of (G .run .standing) .kinds)
+    y .kinds2 .given ∙ long-of (now-at G .standing) .for-kinds ∙ sym (long-of (G .run .standing) .for-kinds)
 
 same-length-2 : tie.Need-same-length-2 Inv-loop μ-loop
 same-length-2 c =
     let y : tie.After-values2 Inv-loop μ-loop = search needs in
     let d : tie.After-settle Inv-loop μ-loop = search needs in
     let G = done d .before .loop .inv in
-    y .values2 .given ∙ long-of (now-at G .standing) .values ∙ sym (long-of (G .run .standing) .values)
+    y .values2 .given ∙ long-of (now-at G .standing) .for-values ∙ sym (long-of (G .run .standing) .for-values)
 
 same-length-3 : tie.Need-same-length-3 Inv-loop μ-loop
 same-length-3 c =
     let d : tie.After-settle Inv-loop μ-loop = search needs in
     let G = done d .before .loop .inv in
-    long-of (now-at G .standing) .variables ∙ sym (long-of (G .run .standing) .variables)
+    long-of (now-at G .standing) .for-variables ∙ sym (long-of (G .run .standing) .for-variables)
 
 same-length-4 : tie.Need-same-length-4 Inv-loop μ-loop
 same-length-4 c =
     let y : tie.After-zct2 Inv-loop μ-loop = search needs in
     let d : tie.After-settle Inv-loop μ-loop = search needs in
     let G = done d .before .loop .inv in
-    y .zct2 .given ∙ long-of (now-at G .standing) .zct ∙ sym (long-of (G .run .standing) .zct)
+    y .zct2 .given ∙ long-of (now-at G .standing) .for-zct ∙ sym (long-of (G .run .standing) .for-zct)
 
 same-length-5 : tie.Need-same-length-5 Inv-loop μ-loop
 same-length-5 c =
     let y : tie.After-mrt2 Inv-loop μ-loop = search needs in
     let d : tie.After-settle Inv-loop μ-loop = search needs in
     let G = done d .before .loop .inv in
-    y .mrt2 .given ∙ long-of (now-at G .standing) .mrt ∙ sym (long-of (G .run .standing) .mrt)
+    y .mrt2 .given ∙ long-of (now-at G .standing) .for-mrt ∙ sym (long-of (G .run .standing) .for-mrt)
 
 same-length-6 : tie.Need-same-length-6 Inv-loop μ-loop
 same-length-6 c =
     let y : tie.After-counts2 Inv-loop μ-loop = search needs in
     let d : tie.After-settle Inv-loop μ-loop = search needs in
     let G = done d .before .loop .inv in
-    y .counts2 .given ∙ long-of (now-at G .standing) .counts ∙ sym (long-of (G .run .standing) .counts)
+    y .counts2 .given ∙ long-of (now-at G .standing) .for-counts ∙ sym (long-of (G .run .standing) .for-counts)
 
 same-length-7 : tie.Need-same-length-7 Inv-loop μ-loop
 same-length-7 c =
     let y : tie.After-log2 Inv-loop μ-loop = search needs in
     let d : tie.After-settle Inv-loop μ-loop = search needs in
     let G = done d .before .loop .inv in
-    y .log2 .given ∙ long-of (now-at G .standing) .log ∙ sym (long-of (G .run .standing) .log)
+    y .log2 .given ∙ long-of (now-at G .standing) .for-log ∙ sym (long-of (G .run .standing) .for-log)
 
 same-length-8 : tie.Need-same-length-8 Inv-loop μ-loop
 same-length-8 c =
     let y : tie.After-work2 Inv-loop μ-loop = search needs in
     let d : tie.After-settle Inv-loop μ-loop = search needs in
     let G = done d .before .loop .inv in
-    y .work2 .given ∙ long-of (now-at G .standing) .work ∙ sym (long-of (G .run .standing) .work)
+    y .work2 .given ∙ long-of (now-at G .standing) .for-work ∙ sym (long-of (G .run .standing) .for-work)
 
 same-length-9 : tie.Need-same-length-9 Inv-loop μ-loop
 same-length-9 c =
