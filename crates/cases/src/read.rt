@@ -29,7 +29,7 @@ pub struct Numeral {
 }
 
 // A name that was read: its place among the names of its kind, and the place past it.
-pub struct Named {
+pub struct Name {
     pub next: usize,
     pub which: usize,
 }
@@ -228,23 +228,23 @@ fn row_name(name: &[u8]) -> usize {
 }
 
 // The name at a place of the line, among the head's numbers or among the rows.
-pub fn named(line: &[u8], from: usize, of_head: bool) -> Named
+pub fn named(line: &[u8], from: usize, of_head: bool) -> Name
     ensures { λ r. ⌜ from ≤ r .next ⌝ }
 {
     if line.len() < from {
-        return Named {
+        return Name {
             next: from,
             which: 8,
         };
     }
     let end = letters(line, from);
     if of_head {
-        return Named {
+        return Name {
             next: end,
             which: head_name(&line[from..end]),
         };
     }
-    Named {
+    Name {
         next: end,
         which: row_name(&line[from..end]),
     }
