@@ -1,4 +1,5 @@
 -- The rows keep their lengths, as the entry point says or as it cannot change them.
+use borrow.Author.Needs.{needs}
 use mathlib.Core.Path.{refl}
 use Rattle.cases.proofs.rows.enter.Statement.{statement}
 use Rattle.cases.proofs.rows.enter.Tie as tie
@@ -13,28 +14,44 @@ batch-requires : tie.Need-batch-requires
 batch-requires c κs = tt
 
 same-length : tie.Need-same-length
-same-length c = c .before .before .before .before .before .before .before .before .before .before .before .before .before .before .fresh .kept .1 .0
+same-length c =
+    let after-fresh : tie.After-fresh = search needs in
+    after-fresh .fresh .kept .1 .0
 
 same-length-2 : tie.Need-same-length-2
-same-length-2 c = c .before .before .before .before .before .before .before .before .before .before .before .before .before .before .fresh .kept .1 .1 .0
+same-length-2 c =
+    let after-fresh : tie.After-fresh = search needs in
+    after-fresh .fresh .kept .1 .1 .0
 
 same-length-3 : tie.Need-same-length-3
-same-length-3 c = c .before .before .before .before .before .before .before .before .before .before .before .before .before .before .fresh .kept .1 .1 .1 .0
+same-length-3 c =
+    let after-fresh : tie.After-fresh = search needs in
+    after-fresh .fresh .kept .1 .1 .1 .0
 
 same-length-4 : tie.Need-same-length-4
-same-length-4 c = c .before .before .before .before .before .before .before .before .before .before .before .before .before .before .fresh .kept .1 .1 .1 .1 .0
+same-length-4 c =
+    let after-fresh : tie.After-fresh = search needs in
+    after-fresh .fresh .kept .1 .1 .1 .1 .0
 
 same-length-5 : tie.Need-same-length-5
-same-length-5 c = c .before .before .before .before .before .before .before .before .before .before .before .before .before .before .fresh .kept .1 .1 .1 .1 .1 .0
+same-length-5 c =
+    let after-fresh : tie.After-fresh = search needs in
+    after-fresh .fresh .kept .1 .1 .1 .1 .1 .0
 
 same-length-6 : tie.Need-same-length-6
-same-length-6 c = c .before .before .before .before .before .before .before .before .before .before .before .before .before .before .fresh .kept .1 .1 .1 .1 .1 .1 .0
+same-length-6 c =
+    let after-fresh : tie.After-fresh = search needs in
+    after-fresh .fresh .kept .1 .1 .1 .1 .1 .1 .0
 
 same-length-7 : tie.Need-same-length-7
-same-length-7 c = c .before .before .before .before .before .before .before .before .before .before .before .before .before .before .fresh .kept .1 .1 .1 .1 .1 .1 .1 .0
+same-length-7 c =
+    let after-fresh : tie.After-fresh = search needs in
+    after-fresh .fresh .kept .1 .1 .1 .1 .1 .1 .1 .0
 
 same-length-8 : tie.Need-same-length-8
-same-length-8 c = c .before .before .before .before .before .before .before .before .before .before .before .before .before .before .fresh .kept .1 .1 .1 .1 .1 .1 .1 .1 .0
+same-length-8 c =
+    let after-fresh : tie.After-fresh = search needs in
+    after-fresh .fresh .kept .1 .1 .1 .1 .1 .1 .1 .1 .0
 
 returns : tie.Need-returns
 returns c = tt
@@ -67,31 +84,49 @@ returns-2 : tie.Need-returns-2
 returns-2 c = tt
 
 same-length-17 : tie.Need-same-length-17
-same-length-17 c = c .before .before .before .before .before .before .before .before .before .before .before .before .before .before .before .batch .kept .1 .0
+same-length-17 c =
+    let after-batch : tie.After-batch = search needs in
+    after-batch .batch .kept .1 .0
 
 same-length-18 : tie.Need-same-length-18
-same-length-18 c = c .before .before .before .before .before .before .before .before .before .before .before .before .before .before .before .batch .kept .1 .1 .0
+same-length-18 c =
+    let after-batch : tie.After-batch = search needs in
+    after-batch .batch .kept .1 .1 .0
 
 same-length-19 : tie.Need-same-length-19
-same-length-19 c = c .before .before .before .before .before .before .before .before .before .before .before .before .before .before .before .batch .kept .1 .1 .1 .0
+same-length-19 c =
+    let after-batch : tie.After-batch = search needs in
+    after-batch .batch .kept .1 .1 .1 .0
 
 same-length-20 : tie.Need-same-length-20
-same-length-20 c = c .before .before .before .before .before .before .before .before .before .before .before .before .before .before .before .batch .kept .1 .1 .1 .1 .0
+same-length-20 c =
+    let after-batch : tie.After-batch = search needs in
+    after-batch .batch .kept .1 .1 .1 .1 .0
 
 same-length-21 : tie.Need-same-length-21
-same-length-21 c = c .before .before .before .before .before .before .before .before .before .before .before .before .before .before .before .batch .kept .1 .1 .1 .1 .1 .0
+same-length-21 c =
+    let after-batch : tie.After-batch = search needs in
+    after-batch .batch .kept .1 .1 .1 .1 .1 .0
 
 same-length-22 : tie.Need-same-length-22
-same-length-22 c = c .before .before .before .before .before .before .before .before .before .before .before .before .before .before .before .batch .kept .1 .1 .1 .1 .1 .1 .0
+same-length-22 c =
+    let after-batch : tie.After-batch = search needs in
+    after-batch .batch .kept .1 .1 .1 .1 .1 .1 .0
 
 same-length-23 : tie.Need-same-length-23
-same-length-23 c = c .before .before .before .before .before .before .before .before .before .before .before .before .before .before .before .batch .kept .1 .1 .1 .1 .1 .1 .1 .0
+same-length-23 c =
+    let after-batch : tie.After-batch = search needs in
+    after-batch .batch .kept .1 .1 .1 .1 .1 .1 .1 .0
 
 same-length-24 : tie.Need-same-length-24
-same-length-24 c = c .before .before .before .before .before .before .before .before .before .before .before .before .before .before .before .batch .kept .1 .1 .1 .1 .1 .1 .1 .1 .0
+same-length-24 c =
+    let after-batch : tie.After-batch = search needs in
+    after-batch .batch .kept .1 .1 .1 .1 .1 .1 .1 .1 .0
 
 same-length-25 : tie.Need-same-length-25
-same-length-25 c = c .before .before .before .before .before .before .before .before .before .before .before .before .before .before .before .batch .kept .1 .1 .1 .1 .1 .1 .1 .1 .1 .1 .0
+same-length-25 c =
+    let after-batch : tie.After-batch = search needs in
+    after-batch .batch .kept .1 .1 .1 .1 .1 .1 .1 .1 .1 .1 .0
 
 returns-3 : tie.Need-returns-3
 returns-3 c = tt

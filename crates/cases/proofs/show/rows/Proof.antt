@@ -23,10 +23,14 @@ clip-requires : tie.Need-clip-requires
 clip-requires c κs = search needs
 
 array-share-prefix-values : tie.Need-array-share-prefix-values
-array-share-prefix-values c = let p = c .before .before .before .before .before .before .before .before .before .before .before .before .before in within _ (c .clip .result) 2050 (p .args .s .values) (p .good .0 .1 .1 .1 .1 .1 .1 .1 .0 .1 .0 .1) (c .clip .ensures)
+array-share-prefix-values c =
+    let start : tie.Start = search needs in
+    let p = start in within _ (c .clip .result) 2050 (p .args .s .values) (p .good .0 .1 .1 .1 .1 .1 .1 .1 .0 .1 .0 .1) (c .clip .ensures)
 
 slice-aggregate-signed-row-2 : tie.Need-slice-aggregate-signed-row-2
-slice-aggregate-signed-row-2 c = let p = c .before .before .before .before .before .before .before .before .before .before .before .before .before .before in front _ (c .before .clip .result) 2050 (p .args .s .values) (p .good .0 .1 .1 .1 .1 .1 .1 .1 .0 .1 .0 .1) (c .before .clip .ensures)
+slice-aggregate-signed-row-2 c =
+    let start : tie.Start = search needs in
+    let p = start in front _ (c .before .clip .result) 2050 (p .args .s .values) (p .good .0 .1 .1 .1 .1 .1 .1 .1 .0 .1 .0 .1) (c .before .clip .ensures)
 
 signed-row-requires : tie.Need-signed-row-requires
 signed-row-requires c κs = search needs
@@ -41,10 +45,14 @@ clip-requires-2 : tie.Need-clip-requires-2
 clip-requires-2 c κs = search needs
 
 array-share-prefix-variables : tie.Need-array-share-prefix-variables
-array-share-prefix-variables c = let p = c .before .before .before .before .before .before .before .before .before .before .before .before .before .before .before .before .before in within _ (c .clip2 .result) 2050 (p .args .s .variables) (p .good .0 .1 .1 .1 .1 .1 .1 .1 .1 .0 .1 .0 .1) (c .clip2 .ensures)
+array-share-prefix-variables c =
+    let start : tie.Start = search needs in
+    let p = start in within _ (c .clip2 .result) 2050 (p .args .s .variables) (p .good .0 .1 .1 .1 .1 .1 .1 .1 .1 .0 .1 .0 .1) (c .clip2 .ensures)
 
 slice-aggregate-signed-row-4 : tie.Need-slice-aggregate-signed-row-4
-slice-aggregate-signed-row-4 c = let p = c .before .before .before .before .before .before .before .before .before .before .before .before .before .before .before .before .before .before in front _ (c .before .clip2 .result) 2050 (p .args .s .variables) (p .good .0 .1 .1 .1 .1 .1 .1 .1 .1 .0 .1 .0 .1) (c .before .clip2 .ensures)
+slice-aggregate-signed-row-4 c =
+    let start : tie.Start = search needs in
+    let p = start in front _ (c .before .clip2 .result) 2050 (p .args .s .variables) (p .good .0 .1 .1 .1 .1 .1 .1 .1 .1 .0 .1 .0 .1) (c .before .clip2 .ensures)
 
 signed-row-requires-2 : tie.Need-signed-row-requires-2
 signed-row-requires-2 c κs = search needs
