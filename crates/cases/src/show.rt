@@ -3,31 +3,19 @@ use crate::read::State;
 use crate::rows::clip;
 use rules::Outcome;
 
-// A space and a number.
-fn number(n: usize) {
-    print::text(b" ");
-    print::number(n);
-}
-
-// A number after its name.
-fn named(name: &[u8], n: usize) {
-    print::text(name);
-    print::number(n);
-}
-
 // status, count and head
 pub fn outcome(o: Outcome) {
     let h = o.head;
     let s = h.sizes;
-    named(b"status ", o.status);
-    named(b" count ", o.count);
-    named(b" head n=", s.n);
-    named(b" m=", s.m);
-    named(b" l=", s.l);
-    named(b" cap=", s.cap);
-    named(b" free=", h.free);
-    named(b" zct=", h.zct);
-    named(b" mrt=", h.mrt);
+    print::number(b"status ", o.status);
+    print::number(b" count ", o.count);
+    print::number(b" head n=", s.n);
+    print::number(b" m=", s.m);
+    print::number(b" l=", s.l);
+    print::number(b" cap=", s.cap);
+    print::number(b" free=", h.free);
+    print::number(b" zct=", h.zct);
+    print::number(b" mrt=", h.mrt);
     print::text(b"\n");
 }
 
@@ -36,7 +24,7 @@ fn byte_row(name: &[u8], row: [u8; 2050], size: usize) {
     let used = clip(size);
     let mut i = 0;
     while i < used {
-        number(row[i] as usize);
+        print::number(b" ", row[i] as usize);
         i += 1;
     }
     print::text(b"\n");
@@ -47,8 +35,7 @@ fn signed_row(name: &[u8], row: &[i32]) {
     let mut i = 0;
     while i < row.len() {
         let x = row[i];
-        print::text(b" ");
-        print::signed(x);
+        print::signed(b" ", x);
         i += 1;
     }
     print::text(b"\n");
@@ -59,7 +46,7 @@ fn unsigned_row(name: &[u8], row: [u32; 2050], size: usize) {
     let used = clip(size);
     let mut i = 0;
     while i < used {
-        number(row[i] as usize);
+        print::number(b" ", row[i] as usize);
         i += 1;
     }
     print::text(b"\n");

@@ -1,4 +1,4 @@
-// Printing on standard output: bytes and numbers.
+// Printing on standard output: bytes, and a number after some.
 ghost use mathlib.Core.Path.{_≡_};
 ghost use lib.IntN.{natAbs};
 use libc::STDOUT_FILENO;
@@ -7,15 +7,18 @@ pub fn text(bytes: &[u8]) {
     io::write_all(STDOUT_FILENO, bytes);
 }
 
-pub fn number(n: usize) {
+pub fn number(before: &[u8], n: usize) {
+    text(before);
     io::print_decimal(STDOUT_FILENO, n as u64);
 }
 
-pub fn word(x: u32) {
+pub fn word(before: &[u8], x: u32) {
+    text(before);
     io::print_decimal(STDOUT_FILENO, x as u64);
 }
 
-pub fn signed(x: i32) {
+pub fn signed(before: &[u8], x: i32) {
+    text(before);
     if x < 0 {
         text(b"-");
     }

@@ -61,19 +61,15 @@ impl Place {
 
 // The line that ends a script that breaks the rules.
 fn print_bad(number: usize) {
-    print::text(b"bad ");
-    print::number(number);
+    print::number(b"bad ", number);
     print::text(b"\n");
 }
 
 // The line of call number `number`.
 fn print_answer(number: usize, status: i32, value: i32) {
-    print::text(b"a ");
-    print::number(number);
-    print::text(b" ");
-    print::signed(status);
-    print::text(b" ");
-    print::signed(value);
+    print::number(b"a ", number);
+    print::signed(b" ", status);
+    print::signed(b" ", value);
     print::text(b"\n");
 }
 
@@ -93,8 +89,7 @@ fn print_answers(status: usize, answers: &[i32; 512], count: usize, first: usize
 
 // The line of a ZCT cell.
 fn print_zero(address: u32) {
-    print::text(b"z ");
-    print::word(address);
+    print::word(b"z ", address);
     print::text(b"\n");
 }
 
@@ -109,10 +104,8 @@ fn print_zct(zct: &[u32], used: usize) {
 
 // The line of an MRT cell.
 fn print_count(address: u32, count: u32) {
-    print::text(b"m ");
-    print::word(address);
-    print::text(b" ");
-    print::word(count);
+    print::word(b"m ", address);
+    print::word(b" ", count);
     print::text(b"\n");
 }
 
@@ -130,13 +123,11 @@ fn print_mrt(mrt: &[u32], counts: &[u32], used: usize) {
 
 // The line of variable v, which holds x.
 fn print_variable(v: usize, x: i32) {
-    print::text(b"v ");
-    print::number(v);
-    print::text(b" ");
+    print::number(b"v ", v);
     if x < 0 {
-        print::text(b"-");
+        print::text(b" -");
     } else {
-        print::signed(x);
+        print::signed(b" ", x);
     }
     print::text(b"\n");
 }
@@ -165,8 +156,7 @@ fn free_cells(kinds: &[u8]) -> usize {
 
 // The f line.
 fn print_free(n: usize) {
-    print::text(b"f ");
-    print::number(n);
+    print::number(b"f ", n);
     print::text(b"\n");
 }
 

@@ -1,7 +1,7 @@
 -- `tally::start` is safe: each row has room for its part. Assumes nothing.
-use native.Mathlib.Omega.{arith}
 use mathlib.Core.Path.{sym}
 use lib.Seq.{length-take-le}
+use Rattle.tally.proofs.Going.{twice}
 use borrow.Author.Needs.{needs}
 use Rattle.tally.proofs.start.Statement.{statement}
 use Rattle.tally.proofs.start.Tie as tie
@@ -13,58 +13,58 @@ mul-entries : tie.Need-mul-entries
 mul-entries c = search needs
 
 array-borrow-prefix-kinds : tie.Need-array-borrow-prefix-kinds
-array-borrow-prefix-kinds c = search needs
+array-borrow-prefix-kinds c = let s : tie.Start = search needs in twice (s .pre .n-most)
 
 slice-aggregate-run : tie.Need-slice-aggregate-run
-slice-aggregate-run c = sym (length-take-le _ _ (omega arith))
+slice-aggregate-run c = let s : tie.Start = search needs in sym (length-take-le _ _ (twice (s .pre .n-most)))
 
 array-borrow-prefix-values : tie.Need-array-borrow-prefix-values
-array-borrow-prefix-values c = search needs
+array-borrow-prefix-values c = let s : tie.Start = search needs in twice (s .pre .n-most)
 
 slice-aggregate-run-2 : tie.Need-slice-aggregate-run-2
-slice-aggregate-run-2 c = sym (length-take-le _ _ (omega arith))
+slice-aggregate-run-2 c = let s : tie.Start = search needs in sym (length-take-le _ _ (twice (s .pre .n-most)))
 
 array-borrow-prefix-variables : tie.Need-array-borrow-prefix-variables
-array-borrow-prefix-variables c = search needs
+array-borrow-prefix-variables c = let s : tie.Start = search needs in s .pre .m-most
 
 slice-aggregate-run-3 : tie.Need-slice-aggregate-run-3
-slice-aggregate-run-3 c = sym (length-take-le _ _ (omega arith))
+slice-aggregate-run-3 c = let s : tie.Start = search needs in sym (length-take-le _ _ (s .pre .m-most))
 
 array-borrow-prefix-zct : tie.Need-array-borrow-prefix-zct
-array-borrow-prefix-zct c = search needs
+array-borrow-prefix-zct c = let s : tie.Start = search needs in s .pre .n-most
 
 slice-aggregate-run-4 : tie.Need-slice-aggregate-run-4
-slice-aggregate-run-4 c = sym (length-take-le _ _ (omega arith))
+slice-aggregate-run-4 c = let s : tie.Start = search needs in sym (length-take-le _ _ (s .pre .n-most))
 
 array-borrow-prefix-mrt : tie.Need-array-borrow-prefix-mrt
-array-borrow-prefix-mrt c = search needs
+array-borrow-prefix-mrt c = let s : tie.Start = search needs in s .pre .n-most
 
 slice-aggregate-run-5 : tie.Need-slice-aggregate-run-5
-slice-aggregate-run-5 c = sym (length-take-le _ _ (omega arith))
+slice-aggregate-run-5 c = let s : tie.Start = search needs in sym (length-take-le _ _ (s .pre .n-most))
 
 array-borrow-prefix-counts : tie.Need-array-borrow-prefix-counts
-array-borrow-prefix-counts c = search needs
+array-borrow-prefix-counts c = let s : tie.Start = search needs in s .pre .n-most
 
 slice-aggregate-run-6 : tie.Need-slice-aggregate-run-6
-slice-aggregate-run-6 c = sym (length-take-le _ _ (omega arith))
+slice-aggregate-run-6 c = let s : tie.Start = search needs in sym (length-take-le _ _ (s .pre .n-most))
 
 array-borrow-prefix-log : tie.Need-array-borrow-prefix-log
-array-borrow-prefix-log c = search needs
+array-borrow-prefix-log c = let s : tie.Start = search needs in twice (s .pre .l-most)
 
 slice-aggregate-run-7 : tie.Need-slice-aggregate-run-7
-slice-aggregate-run-7 c = sym (length-take-le _ _ (omega arith))
+slice-aggregate-run-7 c = let s : tie.Start = search needs in sym (length-take-le _ _ (twice (s .pre .l-most)))
 
 array-borrow-prefix-work : tie.Need-array-borrow-prefix-work
-array-borrow-prefix-work c = search needs
+array-borrow-prefix-work c = let s : tie.Start = search needs in s .pre .n-most
 
 slice-aggregate-run-8 : tie.Need-slice-aggregate-run-8
-slice-aggregate-run-8 c = sym (length-take-le _ _ (omega arith))
+slice-aggregate-run-8 c = let s : tie.Start = search needs in sym (length-take-le _ _ (s .pre .n-most))
 
 run-requires : tie.Need-run-requires
-run-requires c κs = search needs
+run-requires c κs = tt
 
 returns : tie.Need-returns
-returns c = search needs
+returns c = tt
 
 pub start-spec : {M : Type 1} → statement M
 start-spec =
