@@ -5,10 +5,10 @@ use Rattle.cases.proofs.show.byte_row.Statement.{statement}
 use Rattle.cases.proofs.show.byte_row.Tie as tie
 
 abbrev Inv-loop : tie.InvT-loop
-Inv-loop name size row used i₀ t7 i = Unit {0}
+Inv-loop name size row used i₀ t7 t8 i = Unit {0}
 
 abbrev μ-loop : tie.MeasureT-loop
-μ-loop name size row used i₀ t7 i = used - i
+μ-loop name size row used i₀ t7 t8 i = used - i
 
 text-requires : tie.Need-text-requires Inv-loop μ-loop
 text-requires c κs = search needs
@@ -18,6 +18,9 @@ clip-requires c κs = search needs
 
 loop-holds : tie.Need-loop-holds Inv-loop μ-loop
 loop-holds c = search needs
+
+slice-aggregate-number : tie.Need-slice-aggregate-number Inv-loop μ-loop
+slice-aggregate-number c = search needs
 
 array-read-number : tie.Need-array-read-number Inv-loop μ-loop
 array-read-number c = search needs
@@ -55,6 +58,7 @@ byte-row-spec =
     text-requires
     clip-requires
     loop-holds
+    slice-aggregate-number
     array-read-number
     cast-number
     number-requires
