@@ -49,6 +49,9 @@ kept-on k x v z m c l w h =
 pub twice : {k : ℕ} → k ≤ 1024 → 2 * k ≤ 2048
 twice h = omega arith
 
+pub twice-fits : {k : ℕ} → k ≤ 1024 → Fits w64 (2 * k)
+twice-fits h = search needs
+
 -- the part of the calls row that a batch takes: its length is a word, and it is within the row
 pub part-fits : (k : ℕ) → k ≤ 256 → Fits w64 (4 * k)
 part-fits k h = search needs

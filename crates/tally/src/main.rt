@@ -2,7 +2,6 @@
 ghost use mathlib.Core.Path.{_≡_};
 ghost use Prim.Native.Nat.{_+_, _<_, _≤_};
 ghost use lib.ListN.{length};
-ghost use Rattle.rules.specs.Head.{Limits};
 ghost use Rattle.tally.specs.Place.{Gathered};
 use libc::STDIN_FILENO;
 use reader::Read;
@@ -31,7 +30,7 @@ struct Place {
 }
 
 impl Place {
-    fn new(at: usize, lines: usize, closed: usize, calls: usize, ended: bool) -> Place
+    fn new(at: usize, lines: usize, closed: usize, calls: usize, ended: bool, bad: bool) -> Place
         ensures { λ r. ⌜ (r .lines ≡ lines) × (r .closed ≡ closed) × (r .calls ≡ calls) × (r .ended ≡ ended) ⌝ }
     {
         Place {
@@ -40,21 +39,7 @@ impl Place {
             closed: closed,
             calls: calls,
             ended: ended,
-            bad: false,
-        }
-    }
-
-    // After a bad line.
-    fn bad(at: usize, lines: usize, closed: usize) -> Place
-        ensures { λ r. ⌜ (r .lines ≡ lines) × (r .closed ≡ closed) × (r .calls ≡ 0) ⌝ }
-    {
-        Place {
-            at: at,
-            lines: lines,
-            closed: closed,
-            calls: 0,
-            ended: true,
-            bad: true,
+            bad: bad,
         }
     }
 }
@@ -216,20 +201,20 @@ fn gather(text: &[u8], from: Place, m: usize, calls: &mut [i32]) -> Place
         match line {
             Line::Call(op, a, b, c) => {
                 if CALLS_MOST <= count {
-                    return Place::bad(at, lines, closed);
+                    return Place::new(at, lines, closed, 0, true, true);
                 }
                 keep(calls, count, op, a, b, c);
                 count += 1;
             }
             Line::Batch => {
-                return Place::new(at, lines, closed, count, false);
+                return Place::new(at, lines, closed, count, false, false);
             }
             _ => {
-                return Place::bad(at, lines, closed);
+                return Place::new(at, lines, closed, 0, true, true);
             }
         }
     }
-    Place::new(at, lines, closed, count, lines <= from.lines)
+    Place::new(at, lines, closed, count, lines <= from.lines, false)
 }
 
 // A script after its heap line, on rows of the heap's lengths: its batches, and the lines at the end; nothing after a bad line.
@@ -250,7 +235,7 @@ fn run(
     let mut head = made.head;
     let mut calls = [0i32; 1024];
     let mut answers = [0i32; 512];
-    let mut place = Place::new(start, 1, 0, 0, false);
+    let mut place = Place::new(start, 1, 0, 0, false, false);
     loop {
         place = gather(text, place, sizes.m, &mut calls);
         if place.ended {
@@ -276,14 +261,16 @@ fn run(
     print_end(place, head, kinds, variables, zct, mrt, counts);
 }
 
-// A script after its heap line: each row is lent at its length.
-fn start(text: &[u8], next: usize, sizes: Sizes)
-    requires { ⌜ Limits sizes ⌝ }
-{
-    let n = sizes.n;
-    let m = sizes.m;
+// A script: line 1 says the heap, and each row is lent at its length.
+fn tally(text: &[u8]) {
+    let read = reader::read_line(text, 0, 0, 0);
+    let line = read.line;
+    let Line::Heap(n, m, l, cap) = line else {
+        print_bad(1);
+        return;
+    };
     let fields = 2 * n;
-    let entries = 2 * sizes.l;
+    let entries = 2 * l;
     let mut kinds = [0u8; 2048];
     let mut values = [0i32; 2048];
     let mut variables = [0i32; 64];
@@ -294,8 +281,8 @@ fn start(text: &[u8], next: usize, sizes: Sizes)
     let mut work = [0u32; 1024];
     run(
         text,
-        next,
-        sizes,
+        read.next,
+        Sizes::plain(n, m, l, cap),
         &mut kinds[..fields],
         &mut values[..fields],
         &mut variables[..m],
@@ -305,17 +292,6 @@ fn start(text: &[u8], next: usize, sizes: Sizes)
         &mut log[..entries],
         &mut work[..n],
     );
-}
-
-// A script.
-fn tally(text: &[u8]) {
-    let read = reader::read_line(text, 0, 0, 0);
-    let line = read.line;
-    if let Line::Heap(n, m, l, cap) = line {
-        start(text, read.next, Sizes::plain(n, m, l, cap));
-    } else {
-        print_bad(1);
-    }
 }
 
 fn main() {

@@ -31,8 +31,8 @@ read-line-requires c κs = search needs
 enum-known-line : tie.Need-enum-known-line Inv-loop μ-loop
 enum-known-line c = search needs
 
-bad-requires : tie.Need-bad-requires Inv-loop μ-loop
-bad-requires c κs = search needs
+new-requires : tie.Need-new-requires Inv-loop μ-loop
+new-requires c κs = search needs
 
 same-length : tie.Need-same-length Inv-loop μ-loop
 same-length c = search needs
@@ -64,8 +64,8 @@ loop-again c =
 enum-told : tie.Need-enum-told Inv-loop μ-loop
 enum-told c = search needs
 
-new-requires : tie.Need-new-requires Inv-loop μ-loop
-new-requires c κs = search needs
+new-requires-2 : tie.Need-new-requires-2 Inv-loop μ-loop
+new-requires-2 c κs = search needs
 
 same-length-2 : tie.Need-same-length-2 Inv-loop μ-loop
 same-length-2 c = search needs
@@ -76,8 +76,8 @@ returns-2 c =
     let h = left t in
     record { more = λ e. omega arith; most = omega arith; batch = omega arith; own = omega arith }
 
-bad-requires-2 : tie.Need-bad-requires-2 Inv-loop μ-loop
-bad-requires-2 c κs = search needs
+new-requires-3 : tie.Need-new-requires-3 Inv-loop μ-loop
+new-requires-3 c κs = search needs
 
 same-length-3 : tie.Need-same-length-3 Inv-loop μ-loop
 same-length-3 c = search needs
@@ -88,8 +88,8 @@ returns-3 c =
     let h = left t in
     record { more = λ e. omega arith; most = omega arith; batch = omega arith; own = omega arith }
 
-new-requires-2 : tie.Need-new-requires-2 Inv-loop μ-loop
-new-requires-2 c κs = search needs
+new-requires-4 : tie.Need-new-requires-4 Inv-loop μ-loop
+new-requires-4 c κs = search needs
 
 same-length-4 : tie.Need-same-length-4 Inv-loop μ-loop
 same-length-4 c = search needs
@@ -98,7 +98,7 @@ returns-4 : tie.Need-returns-4 Inv-loop μ-loop
 returns-4 c =
     let l : tie.At-loop Inv-loop μ-loop = search needs in
     let s : tie.Start Inv-loop μ-loop = search needs in
-    record { more = λ e. omega (arith, leb-false (l .loop .lines) (s .args .from .lines) (sym (c .new2 .ensures .3) ∙ e)); most = omega arith; batch = omega arith; own = omega arith }
+    record { more = λ e. omega (arith, leb-false (l .loop .lines) (s .args .from .lines) (sym (c .new4 .ensures .3) ∙ e)); most = omega arith; batch = omega arith; own = omega arith }
 
 pub gather-spec : {M : Type 1} → statement M
 gather-spec =
@@ -110,7 +110,7 @@ gather-spec =
     loop-holds
     read-line-requires
     enum-known-line
-    bad-requires
+    new-requires
     same-length
     returns
     keep-requires
@@ -118,12 +118,12 @@ gather-spec =
     loop-less
     loop-again
     enum-told
-    new-requires
+    new-requires-2
     same-length-2
     returns-2
-    bad-requires-2
+    new-requires-3
     same-length-3
     returns-3
-    new-requires-2
+    new-requires-4
     same-length-4
     returns-4)
