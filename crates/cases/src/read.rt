@@ -94,7 +94,7 @@ fn with_digit(size: usize, byte: u8) -> usize {
     10 * size + wide(byte - 48)
 }
 
-pub fn wide(byte: u8) -> usize
+fn wide(byte: u8) -> usize
     ensures { λ r. ⌜ r < 256 ⌝ }
 {
     byte as usize
