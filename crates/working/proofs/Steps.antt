@@ -97,6 +97,11 @@ module _ {s : Sizes} {r : Lent} {at : State} {h : Heap} (S : Standing s r at h) 
       rw (step-refused s h c k (sym e) n)
       (record { standing = S; status = refl; value = v; few = omega arith })
 
+-- the settle before a call takes no freed cell back
+pub grown : {make : Bool} {s : Sizes} {r : Lent} {at o : State} {h : Heap} {r′ : HeapRows} {log work : List ℕ} → Standing s r at h
+    → MakesRoom make s r at (record { kinds = r′ .kinds; values = r′ .values; variables = r .variables; tables = r′ .tables; log = log; work = work }) o → at .freed ≤ o .freed
+grown {r = r} {h = h} S made = made (r .variables) (h .shape .variables) h (S .whole) (S .whole .variables-are) .grows
+
 -- a call that passed its check, from what each part of the code says of the rows: the check, the need, the test for a settle, the settle
 module _ {s : Sizes} {r : Lent} {at : State} (c : Call) {no k : ℕ} (checked : (sh : Shape) → Shown (s .n) (r .kinds) (r .values) (r .variables) sh → no ≡ check c sh) (right : no ≡ 0)
     (needed : (sh : Shape) → Shown (s .n) (r .kinds) (r .values) (r .variables) sh → k ≡ needs c sh)
@@ -115,9 +120,6 @@ module _ {s : Sizes} {r : Lent} {at : State} (c : Call) {no k : ℕ} (checked : 
 
   room : RoomMade make s (h .shape .variables) r at h (record { kinds = r′ .kinds; values = r′ .values; variables = r .variables; tables = r′ .tables; log = log; work = work }) o
   room = made (r .variables) (h .shape .variables) h (S .whole) (S .whole .variables-are)
-
-  pub grown : at .freed ≤ o .freed
-  grown = room .grows
 
   pub able-now : Able (s .n) c (record { kinds = r′ .kinds; values = r′ .values; variables = r .variables; log = log }) o × (o .freed - at .freed ≤ 1024)
   unfolding settledHeap

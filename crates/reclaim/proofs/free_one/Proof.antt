@@ -73,9 +73,11 @@ lower-to-requires c κs = let x : tie.After-field-at = search needs in
 
 lower-to-requires-2 : tie.Need-lower-to-requires-2
 lower-to-requires-2 c κs = let y : tie.After-field-at2 = search needs in
-    let s : tie.Start = search needs in
-    let R = s .pre .0 .rows in
-    inside-more (y .field-at2 .result) (R .most) (read-inside (R .cells) (y .field-at2 .result) _ (y .field-at2 .ensures))
+    let x : tie.After-field-at = search needs in
+    let R = start x .pre .0 .rows in
+    let X = inside-more (x .field-at .result) (R .most) (read-inside (R .cells) (x .field-at .result) _ (x .field-at .ensures)) in
+    let Y = inside-more (y .field-at2 .result) (R .most) (read-inside (R .cells) (y .field-at2 .result) _ (y .field-at2 .ensures)) in
+    search needs
 
 add-t19 : tie.Need-add-t19
 add-t19 c = let x : tie.After-field-at = search needs in

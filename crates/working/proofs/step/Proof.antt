@@ -83,15 +83,8 @@ settle-if-requires c κs =
 sub-freed : tie.Need-sub-freed
 sub-freed c =
     let m : tie.After-settle-if = search needs in
-    let t : tie.After-settles-first = search needs in
-    let n : tie.After-need = search needs in
-    let i : tie.Else1 = search needs in
-    let k = checked m in
-    let f : tie.After-found = search needs in
-    let q = decoded k in
-    let s = start q in
-    let fit = found-fits (s .args .sizes .m) (s .args .words .now) (f .found .given .1) (q .call-at .ensures) in
-    grown _ (k .check .ensures) (i .if1 .left) (n .need .ensures) (t .settles-first .ensures) (m .settle-if .ensures) fit (s .pre .standing)
+    let s = start (decoded (checked m)) in
+    grown (s .pre .standing) (m .settle-if .ensures)
 
 act-requires : tie.Need-act-requires
 act-requires c κs =
