@@ -21,7 +21,7 @@ use Rattle.rules.specs.Rows.{CallRows, Lent}
 use Rattle.rules.specs.Whole.{Inside, Cells, Logged, Whole}
 use Rattle.cells.specs.Leaves.{heldAs}
 use Rattle.cells.specs.Log.{transaction}
-use Rattle.cells.specs.Free.{Taken}
+use Rattle.cells.specs.Free.{CellTaken}
 use Rattle.rules.proofs.Lists.{map-set, set-each}
 use Rattle.cells.proofs.Storing.{inside-more, cell-lengths, read-inside, stored-at}
 use Rattle.before.specs.Seen.{Held, Shown}
@@ -177,7 +177,7 @@ none-free {s} {h = h} v e W =
 
 -- from what the parts of the taking say
 pub took : {s : Sizes} {r : CallRows} {st : State} {ks : List ℕ} {xs vs : List ℤ} {log : List ℕ} {next len : ℕ} (v : ℕ) → (st .first ≡ s .n → ⊥)
-    → ((n : ℕ) (fs : List Field) → Cells n (r .kinds) (r .values) fs → Taken n ks xs (st .first) next fs) → vs ≡ set (r .variables) v (variableOf (heldAs (s .n) (st .first)))
+    → ((n : ℕ) (fs : List Field) → Cells n (r .kinds) (r .values) fs → CellTaken n ks xs (st .first) next fs) → vs ≡ set (r .variables) v (variableOf (heldAs (s .n) (st .first)))
     → ((n : ℕ) (ts : List Transaction) → Logged n (r .log) (st .len) ts → st .first < n → Logged n log len (ts ++ (transaction 1 (st .first) ∷ []))) → length log ≡ length (r .log)
     → Does s (λ h. doNew (noneFree s h) v h) r st (record { kinds = ks; values = xs; variables = vs; log = log }) (worked (record { len = len; first = next; used = st .used; freed = st .freed }) (pos 0))
 unfolding doNew noneFree takeCell hold transaction

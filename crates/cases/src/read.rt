@@ -6,7 +6,7 @@ use rules::Sizes;
 
 // What goes from line to line: the head, how much of the calls and of the answers is used, and the eight rows with
 // their lengths. A row has room for a heap of one cell too many.
-pub struct State {
+pub struct Setup {
     pub head: Head,
     pub calls: usize,
     pub answers: usize,
@@ -34,13 +34,13 @@ pub struct Name {
     pub which: usize,
 }
 
-pub fn start() -> State {
+pub fn start() -> Setup {
     let head = Head::fresh(Sizes::plain(0, 0, 0, 0));
     let lengths = [0usize; 8];
     let kinds = [0u8; 2050];
     let signed = [0i32; 2050];
     let unsigned = [0u32; 2050];
-    State {
+    Setup {
         head: head,
         calls: 0,
         answers: 0,
@@ -315,7 +315,7 @@ fn words(line: &[u8], from: usize, out: &mut [i32]) -> usize {
 }
 
 // h n=N m=M l=L cap=C free=F zct=Z mrt=R: a number not given is 0.
-pub fn head_line(line: &[u8], mut s: State) -> State {
+pub fn head_line(line: &[u8], mut s: Setup) -> Setup {
     let mut w = [0usize; 7];
     if !settings(line, true, &mut w) {
         unknown(line);
@@ -332,7 +332,7 @@ pub fn head_line(line: &[u8], mut s: State) -> State {
 }
 
 // r kinds=K values=V ..: the lengths, 0 where none is given, and rows of zeros.
-pub fn rows_line(line: &[u8], s: State) -> State {
+pub fn rows_line(line: &[u8], s: Setup) -> Setup {
     let mut w = [0usize; 8];
     if !settings(line, false, &mut w) {
         unknown(line);
@@ -348,7 +348,7 @@ pub fn rows_line(line: &[u8], s: State) -> State {
 }
 
 // c WORDS.. or c+ WORDS..
-pub fn calls_line(line: &[u8], mut s: State, calls: &mut [i32]) -> State {
+pub fn calls_line(line: &[u8], mut s: Setup, calls: &mut [i32]) -> Setup {
     if is_at(line, 1, b'+') {
         let k = s.calls;
         if k <= calls.len() {
@@ -373,7 +373,7 @@ fn total(a: usize, b: usize) -> usize {
 }
 
 // a LENGTH
-pub fn answers_line(line: &[u8], mut s: State, answers: &mut [i32]) -> State {
+pub fn answers_line(line: &[u8], mut s: Setup, answers: &mut [i32]) -> Setup {
     let k = number(line, 1);
     s.answers = k.size;
     fill(answers);

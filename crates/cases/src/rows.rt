@@ -1,7 +1,7 @@
 // One line of the text: what it does to the eight rows, which it sets or hands to an entry point of the heap.
 ghost use Prim.Native.Nat.{_≤_};
 use crate::read;
-use crate::read::State;
+use crate::read::Setup;
 use crate::show;
 use rules::Head;
 use rules::Outcome;
@@ -14,7 +14,7 @@ pub fn clip(k: usize) -> usize
 }
 
 // One line, with its end.
-pub fn line(line: &[u8], s: State, calls: &mut [i32], answers: &mut [i32]) -> State {
+pub fn line(line: &[u8], s: Setup, calls: &mut [i32], answers: &mut [i32]) -> Setup {
     if line.len() == 0 {
         return s;
     }
@@ -39,7 +39,7 @@ pub fn line(line: &[u8], s: State, calls: &mut [i32], answers: &mut [i32]) -> St
 }
 
 // s ROW PLACE VALUE
-fn set(line: &[u8], mut s: State) -> State {
+fn set(line: &[u8], mut s: Setup) -> Setup {
     let row = read::named(line, 2, false);
     let place = read::number(line, row.next);
     let value = read::number(line, place.next);
@@ -72,7 +72,7 @@ fn set(line: &[u8], mut s: State) -> State {
 }
 
 // F, A or B: the calls and the answers are lent as far as they are used.
-fn run_line(which: u8, s: State, calls: &[i32], answers: &mut [i32]) -> State {
+fn run_line(which: u8, s: Setup, calls: &[i32], answers: &mut [i32]) -> Setup {
     let c = s.calls;
     let a = s.answers;
     if calls.len() < c {
@@ -89,7 +89,7 @@ fn run_line(which: u8, s: State, calls: &[i32], answers: &mut [i32]) -> State {
 }
 
 // An entry point on the rows, each lent at its length; its outcome and the rows are printed.
-fn run(which: u8, mut s: State, calls: &[i32], answers: &mut [i32]) -> State {
+fn run(which: u8, mut s: Setup, calls: &[i32], answers: &mut [i32]) -> Setup {
     let k = s.lengths;
     let mut kinds = s.kinds;
     let mut values = s.values;

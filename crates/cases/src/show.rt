@@ -1,5 +1,5 @@
 // Printing: an outcome, and the rows by their names.
-use crate::read::State;
+use crate::read::Setup;
 use crate::rows::clip;
 use rules::Outcome;
 
@@ -53,7 +53,7 @@ fn unsigned_row(name: &[u8], row: [u32; 2050], size: usize) {
 }
 
 // The eight rows, a line for each.
-pub fn rows(s: State) {
+pub fn rows(s: Setup) {
     let k = s.lengths;
     let kinds = s.kinds;
     let values = s.values;

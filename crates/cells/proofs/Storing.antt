@@ -13,7 +13,7 @@ use Rattle.rules.specs.Step.{after}
 use Rattle.rules.specs.Whole.{Inside, Cells}
 use Rattle.rules.proofs.Lists.{map-set, set-each}
 use Rattle.rules.proofs.Roundtrip.{field-back}
-use Rattle.cells.specs.Free.{Taken}
+use Rattle.cells.specs.Free.{CellTaken}
 
 -- a field of a heap of n is one of a larger heap
 pub inside-more : {n m : ℕ} (f : Field) → n ≤ m → Inside n f → Inside m f
@@ -66,7 +66,7 @@ after-inside n (Free b) I = I
 
 pub taken : {n : ℕ} {ks ks′ : List ℕ} {xs xs′ : List ℤ} {fs : List Field} (a r : ℕ) (f : Field) → Cells n ks xs fs
     → f ≡ fieldOf (getD ks (2 * a) 0) (getD xs (2 * a) (pos 0)) → r ≡ after f
-    → ks′ ≡ set ks (2 * a) (kindOf Nothing) → xs′ ≡ set xs (2 * a) (valueOf Nothing) → Taken n ks′ xs′ a r fs
+    → ks′ ≡ set ks (2 * a) (kindOf Nothing) → xs′ ≡ set xs (2 * a) (valueOf Nothing) → CellTaken n ks′ xs′ a r fs
 unfolding field place
 taken {n} {fs = fs} a r f C e q ek ex =
     let z : 2 * a ≡ 2 * a + 0 = omega arith in

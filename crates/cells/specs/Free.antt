@@ -10,7 +10,7 @@ use Rattle.rules.specs.Step.{after}
 use Rattle.rules.specs.Whole.{Cells}
 
 -- the rows are fs with nothing in field 0 of a, and r is the free address after a
-pub record Taken (n : ℕ) (ks : List ℕ) (xs : List ℤ) (a r : ℕ) (fs : List Field) : Type 0 where
+pub record CellTaken (n : ℕ) (ks : List ℕ) (xs : List ℤ) (a r : ℕ) (fs : List Field) : Type 0 where
   pub cells : Cells n ks xs (store fs a 0 Nothing)
   pub next : r ≡ after (field fs a 0)
   pub within : r ≤ n

@@ -18,7 +18,7 @@ ghost use Rattle.rules.specs.Sound.{Sized};
 ghost use Rattle.rules.specs.Whole.{Inside, Cells, Logged};
 ghost use Rattle.cells.specs.Leaves.{heldAs};
 ghost use Rattle.cells.specs.Log.{transaction, Noted};
-ghost use Rattle.cells.specs.Free.{Taken, FreedTo};
+ghost use Rattle.cells.specs.Free.{CellTaken, FreedTo};
 ghost use Rattle.cells.specs.Marks.{Marks};
 use rules::Field;
 use rules::Sizes;
@@ -204,7 +204,7 @@ fn after_field(f: Field) -> usize
 // The first free cell a is taken: its field 0 becomes nothing. The next free address.
 pub fn take_free(kinds: &mut [u8], values: &mut [i32], a: usize) -> usize
     requires { ⌜ (2 * a < length (now kinds)) × (2 * a < length (now values)) ⌝ }
-    ensures { λ r. ⌜ ((n : ℕ) (fs : List Field) → Cells n (now (kinds .entry)) (now (values .entry)) fs → Taken n (now (kinds .exit)) (now (values .exit)) a r fs) ⌝ }
+    ensures { λ r. ⌜ ((n : ℕ) (fs : List Field) → Cells n (now (kinds .entry)) (now (values .entry)) fs → CellTaken n (now (kinds .exit)) (now (values .exit)) a r fs) ⌝ }
 {
     let i = 2 * a;
     let old = field_at(kinds, values, i);

@@ -18,14 +18,14 @@ or-both : (a b : ℕ) → a ≡ 0 → b ≡ 0 → bitOr a b ≡ 0
 or-both a b d e = rw (d, e)
 
 -- what was gathered from a place on, up to j
-pub record Gathered (row : List ℕ) (from j seen : ℕ) : Type 0 where
+pub record GatheredUp (row : List ℕ) (from j seen : ℕ) : Type 0 where
   pub zeros : seen ≡ 0 → (k : ℕ) → k < j → from ≤ k → getD row k 0 ≡ 0
   pub nothing : ZeroFrom row from → seen ≡ 0
 
-pub gathered-none : (row : List ℕ) (from : ℕ) → Gathered row from from 0
+pub gathered-none : (row : List ℕ) (from : ℕ) → GatheredUp row from from 0
 gathered-none row from = record { zeros = λ e k h f. absurd (omega arith); nothing = λ z. refl }
 
-pub gathered-more : (row : List ℕ) (from j seen : ℕ) → from ≤ j → j < length row → Gathered row from j seen → Gathered row from (j + 1) (bitOr seen (getD row j 0))
+pub gathered-more : (row : List ℕ) (from j seen : ℕ) → from ≤ j → j < length row → GatheredUp row from j seen → GatheredUp row from (j + 1) (bitOr seen (getD row j 0))
 gathered-more row from j seen f h g =
     record {
       zeros = λ e. below-more (λ k. from ≤ k → getD row k 0 ≡ 0) j (g .zeros (or-left seen (getD row j 0) e)) (λ f. or-right seen (getD row j 0) e);

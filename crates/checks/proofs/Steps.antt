@@ -14,12 +14,12 @@ use Rattle.rules.specs.Rows.{TableRows}
 use Rattle.rules.specs.Sound.{mark, Live, TableRow, TablesSound, At, NotIn, Agree}
 
 -- the entries before z are below a, and the others are not
-pub record Place (row : List ℕ) (used a z : ℕ) : Type 0 where
+pub record WalkPlace (row : List ℕ) (used a z : ℕ) : Type 0 where
   pub most : z ≤ used
   pub below : (j : ℕ) → j < z → getD row j 0 < a
   pub above : z < used → a ≤ getD row z 0
 
-pub begin : (row : List ℕ) (used : ℕ) → Place row used 0 0
+pub begin : (row : List ℕ) (used : ℕ) → WalkPlace row used 0 0
 begin row used = record { most = omega arith; below = λ j h. absurd (omega arith); above = λ h. omega arith }
 
 module _ (n : ℕ) (ks row : List ℕ) (used : ℕ) (t : TableRow n ks row used) where
@@ -31,8 +31,8 @@ module _ (n : ℕ) (ks row : List ℕ) (used : ℕ) (t : TableRow n ks row used)
       go true e s r = let w = r (ltb-true i j e) in omega arith
       go false e s r = let w = ltb-false i j e in let o : i ≡ j = omega arith in rw o s
 
-  module _ (a z : ℕ) (p : Place row used a z) where
-    pub in-next : At row used z a → Place row used (a + 1) (z + 1)
+  module _ (a z : ℕ) (p : WalkPlace row used a z) where
+    pub in-next : At row used z a → WalkPlace row used (a + 1) (z + 1)
     in-next h =
         record {
           most = omega (arith, h .0);
@@ -40,7 +40,7 @@ module _ (n : ℕ) (ks row : List ℕ) (used : ℕ) (t : TableRow n ks row used)
           above = λ k. let w = t .ascending z k in let e = h .1 in omega arith;
         }
 
-    pub out-next : (At row used z a → ⊥) → Place row used (a + 1) z
+    pub out-next : (At row used z a → ⊥) → WalkPlace row used (a + 1) z
     out-next d =
         record {
           most = p .most;
@@ -68,7 +68,7 @@ module _ (n : ℕ) (ks row : List ℕ) (used : ℕ) (t : TableRow n ks row used)
             other : (j z : ℕ) → z ≤ j → (j ≡ z → ⊥) → z < j
             other j z g d = omega arith
 
-  pub all : (a z : ℕ) → Place row used a z → n ≤ a → z ≡ used
+  pub all : (a z : ℕ) → WalkPlace row used a z → n ≤ a → z ≡ used
   all a z p h = go (ltb z used) refl
     where
       go : (q : Bool) → ltb z used ≡ q → z ≡ used
@@ -77,8 +77,8 @@ module _ (n : ℕ) (ks row : List ℕ) (used : ℕ) (t : TableRow n ks row used)
 
 -- what has been compared once the address is a
 pub record Gone (h : Head) (ks : List ℕ) (t : TableRows) (count : ℕ → ℕ) (a z q : ℕ) : Type 0 where
-  pub zplace : Place (t .zct) (h .zct) a z
-  pub qplace : Place (t .mrt) (h .mrt) a q
+  pub zplace : WalkPlace (t .zct) (h .zct) a z
+  pub qplace : WalkPlace (t .mrt) (h .mrt) a q
   pub most : a ≤ h .sizes .n
   pub zmost : z ≤ h .zct
   pub qmost : q ≤ h .mrt
@@ -110,16 +110,16 @@ module _ (h : Head) (ks : List ℕ) (t : TableRows) (count : ℕ → ℕ) where
   InMrt a q = At (t .mrt) (h .mrt) q a
 
   module _ (T : TablesSound h ks t) (a z q : ℕ) (g : Gone h ks t count a z q) where
-    abbrev zct-in : InZct a z → Place (t .zct) (h .zct) (a + 1) (z + 1)
+    abbrev zct-in : InZct a z → WalkPlace (t .zct) (h .zct) (a + 1) (z + 1)
     zct-in = in-next (h .sizes .n) ks (t .zct) (h .zct) (T .zct-row) a z (g .zplace)
 
-    abbrev zct-out : (InZct a z → ⊥) → Place (t .zct) (h .zct) (a + 1) z
+    abbrev zct-out : (InZct a z → ⊥) → WalkPlace (t .zct) (h .zct) (a + 1) z
     zct-out = out-next (h .sizes .n) ks (t .zct) (h .zct) (T .zct-row) a z (g .zplace)
 
-    abbrev mrt-in : InMrt a q → Place (t .mrt) (h .mrt) (a + 1) (q + 1)
+    abbrev mrt-in : InMrt a q → WalkPlace (t .mrt) (h .mrt) (a + 1) (q + 1)
     mrt-in = in-next (h .sizes .n) ks (t .mrt) (h .mrt) (T .mrt-row) a q (g .qplace)
 
-    abbrev mrt-out : (InMrt a q → ⊥) → Place (t .mrt) (h .mrt) (a + 1) q
+    abbrev mrt-out : (InMrt a q → ⊥) → WalkPlace (t .mrt) (h .mrt) (a + 1) q
     mrt-out = out-next (h .sizes .n) ks (t .mrt) (h .mrt) (T .mrt-row) a q (g .qplace)
 
     abbrev One : ℕ → Type 0

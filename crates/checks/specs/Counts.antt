@@ -10,7 +10,7 @@ use Rattle.rules.specs.Rows.{TableRows}
 use Rattle.rules.specs.Sound.{pointers}
 
 -- the work row has for each cell the number of the first i words that point to it
-pub record Counted (n : ℕ) (ks : List ℕ) (vs : List ℤ) (i : ℕ) (work : List ℕ) : Type 0 where
+pub record CountedTo (n : ℕ) (ks : List ℕ) (vs : List ℤ) (i : ℕ) (work : List ℕ) : Type 0 where
   pub long : length work ≡ n
   pub each : (b : ℕ) → b < n → getD work b 0 ≡ pointers n ks vs b i
 

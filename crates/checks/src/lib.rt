@@ -8,7 +8,7 @@ ghost use Rattle.rules.specs.Lending.{tablesNow, tableEntries};
 ghost use Rattle.rules.specs.Sound.{mark, Live, Mark, WordAt, Words, Variable, Variables, ZeroFrom, TableRow, CountsRow, TablesSound, pointsTo, At, Agree};
 ghost use Rattle.checks.specs.CellRows.{CellRows, WordIn};
 ghost use Rattle.checks.specs.Walk.{Walked, AllMet};
-ghost use Rattle.checks.specs.Counts.{Counted, TablesFit, tallied, AllMarked, EntriesBelow};
+ghost use Rattle.checks.specs.Counts.{CountedTo, TablesFit, tallied, AllMarked, EntriesBelow};
 use cells::address_or;
 use rules::Head;
 
@@ -167,7 +167,7 @@ fn points_to(kinds: &[u8], values: &[i32], n: usize, i: usize) -> usize
 pub fn count(kinds: &[u8], values: &[i32], n: usize, work: &mut [u32])
     requires { ⌜ CellRows n (now kinds) (now values) ⌝ }
     requires { ⌜ now work ≡ replicate n 0 ⌝ }
-    ensures { λ _. ⌜ Counted n (now (kinds .entry)) (now (values .entry)) (2 * n) (now (work .exit)) ⌝ }
+    ensures { λ _. ⌜ CountedTo n (now (kinds .entry)) (now (values .entry)) (2 * n) (now (work .exit)) ⌝ }
 {
     let end = 2 * n;
     let mut i = 0;

@@ -47,7 +47,7 @@ unfolding field place
 at-1 fs a f e = e
 
 -- what the code leans on where it frees the cell at place p of ZCT
-pub record Sized (ks : List ℕ) (xs : List ℤ) (zs : List ℕ) (free p : ℕ) : Type 0 where
+pub record FreeingSizes (ks : List ℕ) (xs : List ℤ) (zs : List ℕ) (free p : ℕ) : Type 0 where
   pub here : p < length zs
   pub small : getD zs p 0 < 1024
   pub kinds : 2 * getD zs p 0 + 1 < length ks
@@ -62,7 +62,7 @@ module _ {n cap : ℕ} {r : HeapRows} {at : State} {h : Heap} (R : Rows n cap r 
       let g : getD (h .tables .zct) p 0 ≡ getD (r .tables .zct) p 0 = rw (← is-take I) (getD-take (at .used .zct) (r .tables .zct) p 0 l) in
       rw g at (all-at (λ y. y < n) (h .tables .zct) (R .ready .kept .zct-below) p (omega arith))
 
-  pub sized : Sized (r .kinds) (r .values) (r .tables .zct) (at .first) p
+  pub sized : FreeingSizes (r .kinds) (r .values) (r .tables .zct) (at .first) p
   sized =
       let f = is-padded (R .ready .are .zct-is) .fits in
       let a = at-zct in

@@ -33,7 +33,7 @@ use Rattle.tables.proofs.Places.{has-place}
 use Rattle.tables.proofs.Single.{is-padded}
 use Rattle.cells.specs.Marks.{Marks}
 use Rattle.cells.proofs.Storing.{cell-lengths}
-use Rattle.reclaim.specs.Reclaiming.{lowTo, Heaped, Freed, Scan, Unheld, Done}
+use Rattle.reclaim.specs.Reclaiming.{lowTo, Heaped, Freed, Scan, Unheld, AfterTurns}
 use Rattle.reclaim.specs.declared.Turn.{Turn}
 
 -- ---- turns
@@ -131,7 +131,7 @@ mark-not true h = absurd (h refl)
 mark-not false h = refl
 
 -- the rows' lengths
-pub record Lengths (n : ℕ) (r : HeapRows) : Type 0 where
+pub record HeapLengths (n : ℕ) (r : HeapRows) : Type 0 where
   pub kinds : length (r .kinds) ≡ 2 * n
   pub values : length (r .values) ≡ 2 * n
   pub zct : length (r .tables .zct) ≡ n
@@ -139,7 +139,7 @@ pub record Lengths (n : ℕ) (r : HeapRows) : Type 0 where
   pub counts : length (r .tables .counts) ≡ n
 
 module _ {n cap : ℕ} {r : HeapRows} {at : State} {h : Heap} (R : Rows n cap r at h) where
-  pub lengths : Lengths n r
+  pub lengths : HeapLengths n r
   lengths =
       record {
         kinds = cell-lengths (R .cells) .0;
@@ -153,18 +153,18 @@ module _ {n cap : ℕ} {r : HeapRows} {at : State} {h : Heap} (R : Rows n cap r 
   heaped few = record { heap = h; rows = rw (R .ready .are .zct-is .long) R; few = few }
 
 -- the rows after k turns that each freed a cell
-pub record Going (n cap : ℕ) (hs : List (Option ℕ)) (k : ℕ) (r : HeapRows) (at : State) (h : Heap) (t : Turn) : Type 0 where
+pub record TurnsGoing (n cap : ℕ) (hs : List (Option ℕ)) (k : ℕ) (r : HeapRows) (at : State) (h : Heap) (t : Turn) : Type 0 where
   pub rows : Rows n cap r (t .at) (reclaim cap hs k h)
   pub len : t .at .len ≡ at .len
   pub count : t .at .freed ≡ at .freed + k
   pub below : (w : ℕ) → has w (reclaim cap hs k h .tables .zct) ≡ true → w < t .low → holds w hs ≡ true
 
-pub going-first : {n cap : ℕ} {r : HeapRows} {at : State} {h : Heap} (hs : List (Option ℕ)) → Rows n cap r at h → Going n cap hs 0 r at h (record { at = at; low = 0 })
+pub going-first : {n cap : ℕ} {r : HeapRows} {at : State} {h : Heap} (hs : List (Option ℕ)) → Rows n cap r at h → TurnsGoing n cap hs 0 r at h (record { at = at; low = 0 })
 unfolding reclaim
 going-first hs R = record { rows = R; len = refl; count = omega arith; below = λ w e l. absurd (not-suc-le-zero l) }
 
 module _ {n cap : ℕ} {hs : List (Option ℕ)} {k : ℕ} {r : HeapRows} {at : State} {h : Heap} {t : Turn} {work : List ℕ}
-    (G : Going n cap hs k r at h t) (M : Marks n work hs) where
+    (G : TurnsGoing n cap hs k r at h t) (M : Marks n work hs) where
   entries : take (t .at .used .zct) (r .tables .zct) ≡ reclaim cap hs k h .tables .zct
   entries = is-take (G .rows .ready .are .zct-is)
 
@@ -205,7 +205,7 @@ module _ {n cap : ℕ} {hs : List (Option ℕ)} {k : ℕ} {r : HeapRows} {at : S
           (picks-at hs (reclaim cap hs k h .tables .zct) p held-before (omega arith)
           (rw g (mark-not (holds (getD (r .tables .zct) p 0) hs) (λ e. U .bare l (M .marks (getD (r .tables .zct) p 0) (small p l) ∙ e)))))
 
-      pub going-next : {r′ : HeapRows} {t′ : Turn} → Freed n cap (getD (r .tables .zct) p 0) r′ (t .at) (reclaim cap hs k h) t′ → Going n cap hs (k + 1) r′ at h t′
+      pub going-next : {r′ : HeapRows} {t′ : Turn} → Freed n cap (getD (r .tables .zct) p 0) r′ (t .at) (reclaim cap hs k h) t′ → TurnsGoing n cap hs (k + 1) r′ at h t′
       unfolding freeCell
       going-next {t′ = t′} F =
           let e = reclaim-next cap hs h k (getD (r .tables .zct) p 0) picked in
@@ -227,7 +227,7 @@ module _ {n cap : ℕ} {hs : List (Option ℕ)} {k : ℕ} {r : HeapRows} {at : S
           }
 
     -- where there is none, the turns that are left change nothing
-    pub done-early : (m : ℕ) → t .at .used .zct ≤ p → k ≤ m → Done n cap hs m r at h (t .at)
+    pub done-early : (m : ℕ) → t .at .used .zct ≤ p → k ≤ m → AfterTurns n cap hs m r at h (t .at)
     done-early m l o =
         let c = G .rows .ready .are .zct-is .count in
         let d = G .count in
@@ -236,7 +236,7 @@ module _ {n cap : ℕ} {hs : List (Option ℕ)} {k : ℕ} {r : HeapRows} {at : S
         let e : reclaim cap hs m h ≡ reclaim cap hs k h = rw j at (reclaim-still cap hs h k none-left (m - k)) in
         record { rows = rw e (G .rows); len = G .len; grows = omega arith; few = omega arith }
 
-  pub done-late : (m : ℕ) → k ≤ m → m ≤ k → Done n cap hs m r at h (t .at)
+  pub done-late : (m : ℕ) → k ≤ m → m ≤ k → AfterTurns n cap hs m r at h (t .at)
   done-late m l o =
       let d = G .count in
       let e : m ≡ k = omega arith in

@@ -43,8 +43,8 @@ pub record Freed (n cap : ℕ) (a : ℕ) (r : HeapRows) (at : State) (h : Heap) 
   pub low : t .low ≡ lowTo (lowTo a (field (h .shape .fields) a 0)) (field (h .shape .fields) a 1)
 
 -- rows that are a heap are that heap with a freed
-abbrev pub Frees : ℕ → ℕ → HeapRows → State → HeapRows → Turn → Type 0
-Frees cap a r at r′ t = (n : ℕ) (h : Heap) → Rows n cap r at h → Freed n cap a r′ at h t
+abbrev pub FreesOne : ℕ → ℕ → HeapRows → State → HeapRows → Turn → Type 0
+FreesOne cap a r at r′ t = (n : ℕ) (h : Heap) → Rows n cap r at h → Freed n cap a r′ at h t
 
 -- ZCT's used part, with its addresses in the work row, and with a mark for each below low
 pub record Scan (zs : List ℕ) (used : ℕ) (work : List ℕ) (low : ℕ) : Type 0 where
@@ -68,7 +68,7 @@ pub record Reclaimable (cap : ℕ) (r : HeapRows) (work : List ℕ) (at : State)
   pub few : at .freed + turns ≤ 2000000
 
 -- the rows are h after so many turns of reclaiming, each of which frees at most one cell
-pub record Done (n cap : ℕ) (hs : List (Option ℕ)) (turns : ℕ) (r : HeapRows) (at : State) (h : Heap) (o : State) : Type 0 where
+pub record AfterTurns (n cap : ℕ) (hs : List (Option ℕ)) (turns : ℕ) (r : HeapRows) (at : State) (h : Heap) (o : State) : Type 0 where
   pub rows : Rows n cap r o (reclaim cap hs turns h)
   pub len : o .len ≡ at .len
   pub grows : at .freed ≤ o .freed
@@ -76,4 +76,4 @@ pub record Done (n cap : ℕ) (hs : List (Option ℕ)) (turns : ℕ) (r : HeapRo
 
 -- rows that are a heap are that heap after so many turns of reclaiming, where the work row's marks are what is held
 abbrev pub Reclaims : ℕ → ℕ → List ℕ → HeapRows → State → HeapRows → State → Type 0
-Reclaims cap turns work r at r′ o = (n : ℕ) (hs : List (Option ℕ)) (h : Heap) → Rows n cap r at h → Marks n work hs → Done n cap hs turns r′ at h o
+Reclaims cap turns work r at r′ o = (n : ℕ) (hs : List (Option ℕ)) (h : Heap) → Rows n cap r at h → Marks n work hs → AfterTurns n cap hs turns r′ at h o

@@ -7,7 +7,7 @@ ghost use Rattle.rules.specs.Call.{drops};
 ghost use Rattle.rules.specs.Whole.{Inside};
 ghost use Rattle.rules.specs.Lending.{tablesNow, tableEntries, tableExits, heapNow, heapEntries, heapExits};
 ghost use Rattle.tables.specs.Row.{Tabled, TablesBy};
-ghost use Rattle.reclaim.specs.Reclaiming.{lowTo, released, Heaped, Frees, Scan, Unheld, Reclaimable, Reclaims};
+ghost use Rattle.reclaim.specs.Reclaiming.{lowTo, released, Heaped, FreesOne, Scan, Unheld, Reclaimable, Reclaims};
 use cells::field_at;
 use cells::free_cell;
 use rules::Field;
@@ -84,7 +84,7 @@ pub struct Turn {
     pub low: u32,
 }
 
-// Frees the cell at place p of ZCT.
+// FreesOne the cell at place p of ZCT.
 fn free_one(
     kinds: &mut [u8],
     values: &mut [i32],
@@ -97,7 +97,7 @@ fn free_one(
 ) -> Turn
     requires { ⌜ Heaped cap (heapNow kinds values zct mrt counts) at ⌝ }
     requires { ⌜ p < at .used .zct ⌝ }
-    ensures { λ r. ⌜ Frees cap (getD (now (zct .entry)) p 0) (heapEntries kinds values zct mrt counts) at (heapExits kinds values zct mrt counts) r ⌝ }
+    ensures { λ r. ⌜ FreesOne cap (getD (now (zct .entry)) p 0) (heapEntries kinds values zct mrt counts) at (heapExits kinds values zct mrt counts) r ⌝ }
 {
     let w = zct[p];
     let a = w as usize;

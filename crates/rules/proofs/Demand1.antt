@@ -125,7 +125,7 @@ module _ (h : Head) (r : Lent) (ws row : List ℤ) where
   accepts (way-0 y d w e) z c u = status-of 0 (accepted-0 (d .calls)) e
 
   -- what an accepted batch had, and what it left
-  pub record Taken (o : Batched) : Type 0 where
+  pub record Accepts (o : Batched) : Type 0 where
     pub sized : Sized h r
     pub callable : Callable h ws row
     pub sound : Sound h r
@@ -134,14 +134,14 @@ module _ (h : Head) (r : Lent) (ws row : List ℤ) where
   no-status : {A : Type 0} {o : Batched} (what : Batched) {k : ℕ} → what .outcome .status ≡ suc k → o ≡ what → o .outcome .status ≡ 0 → A
   no-status what s e z = let f = status-of _ s e in absurd (omega arith)
 
-  taken-of : {o : Batched} → Way h r ws row o → o .outcome .status ≡ 0 → Taken o
+  taken-of : {o : Batched} → Way h r ws row o → o .outcome .status ≡ 0 → Accepts o
   taken-of (way-1 n e) s = no-status (leavesWith (outcome 1 h 0) r row) refl e s
   taken-of (way-2 y d e) s = no-status (leavesWith (outcome 2 h 0) r row) refl e s
   taken-of (way-3 y d e) s = no-status (leavesWith (outcome 3 h 0) r row) refl e s
   taken-of (way-4 y d n e) s = no-status (leavesWith (outcome 4 h 0) (cleared h r) row) refl e s
   taken-of (way-0 y d w e) s = record { sized = y; callable = d; sound = w; left = e }
 
-  pub taken : batchOf h r ws row .outcome .status ≡ 0 → Taken (batchOf h r ws row)
+  pub taken : batchOf h r ws row .outcome .status ≡ 0 → Accepts (batchOf h r ws row)
   taken s = taken-of way s
 
 -- ---- answers: two words for each call

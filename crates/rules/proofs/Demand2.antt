@@ -33,7 +33,7 @@ use Rattle.rules.proofs.Step.{settled-done, step-inv}
 use Rattle.rules.proofs.Roundtrip.{rows-of-heap}
 use Rattle.rules.proofs.Whole.{twice}
 use Rattle.rules.proofs.Entry.{entry-ended, exit-ended, exit-sized, exit-sound}
-use Rattle.rules.proofs.Demand1.{Taken, taken, same-calls, answers-long, audit-0, audit-4, demand-1}
+use Rattle.rules.proofs.Demand1.{Accepts, taken, same-calls, answers-long, audit-0, audit-4, demand-1}
 use Rattle.rules.proofs.Facts as facts
 
 -- ---- free cells and cells in use
@@ -174,7 +174,7 @@ module _ {h : Head} {r : Lent} (Z : Sized h r) (S : Sound h r) (v : ℕ) (k : v 
 -- ---- the demand
 
 -- an accepted batch's calls are fit
-taken-fit : {h : Head} {r : Lent} {ws row : List ℤ} {o : Batched} (t : Taken h r ws row o) → AllFit (h .sizes .m) (t .callable .calls)
+taken-fit : {h : Head} {r : Lent} {ws row : List ℤ} {o : Batched} (t : Accepts h r ws row o) → AllFit (h .sizes .m) (t .callable .calls)
 taken-fit {h} {ws = ws} t = calls-in-fit (h .sizes .m) ws (t .callable .calls) (t .callable .decoded)
 
 pub demand-2 : Demand2 ours

@@ -111,8 +111,8 @@ count-in P a k (x ∷ m) s e = go (eqb a (x .address)) e (count-in P a k m (s .1
 
 -- ---- the tables
 
-abbrev pub InRange : ℕ → ℕ → Type 0
-InRange cap c = (2 ≤ c) × (c ≤ cap)
+abbrev pub CountRanged : ℕ → ℕ → Type 0
+CountRanged cap c = (2 ≤ c) × (c ≤ cap)
 
 module _ (n cap : ℕ) (cap3 : 3 ≤ cap) (t : Tables) (s : Kept n cap t) where
   pub enterZct-kept : (a : ℕ) → a < n → Kept n cap (enterZct a t)
@@ -137,7 +137,7 @@ module _ (n cap : ℕ) (cap3 : 3 ≤ cap) (t : Tables) (s : Kept n cap t) where
         mrt-counts = s .mrt-counts;
       }
 
-  pub enterMrt-kept : (a k : ℕ) → a < n → InRange cap k → Kept n cap (enterMrt a k t)
+  pub enterMrt-kept : (a k : ℕ) → a < n → CountRanged cap k → Kept n cap (enterMrt a k t)
   unfolding enterMrt
   enterMrt-kept a k h r =
       record {
@@ -145,7 +145,7 @@ module _ (n cap : ℕ) (cap3 : 3 ≤ cap) (t : Tables) (s : Kept n cap t) where
         zct-below = s .zct-below;
         mrt-up = rw enter-addresses (insert-up a (addresses (t .mrt)) (s .mrt-up));
         mrt-below = rw enter-addresses (all-insert (λ y. y < n) a (addresses (t .mrt)) h (s .mrt-below));
-        mrt-counts = enter-counts (InRange cap) a k (t .mrt) r (s .mrt-counts);
+        mrt-counts = enter-counts (CountRanged cap) a k (t .mrt) r (s .mrt-counts);
       }
 
   pub leaveMrt-kept : (a : ℕ) → Kept n cap (leaveMrt a t)
@@ -156,11 +156,11 @@ module _ (n cap : ℕ) (cap3 : 3 ≤ cap) (t : Tables) (s : Kept n cap t) where
         zct-below = s .zct-below;
         mrt-up = rw delete-addresses (remove-up a (addresses (t .mrt)) (s .mrt-up));
         mrt-below = rw delete-addresses (all-remove (λ y. y < n) a (addresses (t .mrt)) (s .mrt-below));
-        mrt-counts = delete-counts (InRange cap) a (t .mrt) (s .mrt-counts);
+        mrt-counts = delete-counts (CountRanged cap) a (t .mrt) (s .mrt-counts);
       }
 
-  in-range : (a k : ℕ) → countIn a (t .mrt) ≡ suc k → InRange cap (suc k)
-  in-range a k e = count-in (InRange cap) a k (t .mrt) (s .mrt-counts) e
+  in-range : (a k : ℕ) → countIn a (t .mrt) ≡ suc k → CountRanged cap (suc k)
+  in-range a k e = count-in (CountRanged cap) a k (t .mrt) (s .mrt-counts) e
 
   pub apply-kept : (x : Transaction) → named x < n → Kept n cap (apply cap x t)
   unfolding apply onCreate onDestroy

@@ -12,7 +12,7 @@ use borrow.Author.Tests.{eqb-true, eqb-false, ne-eqb, eq-eqb}
 use Rattle.rules.specs.Table.{Entry, has, enter, delete, countIn, addresses, pad, Ascending}
 use Rattle.rules.specs.Heap.{Tables}
 use Rattle.rules.specs.Rules.{enterMrt, leaveMrt, onCreate, onDestroy}
-use Rattle.tables.specs.Row.{place, put, cut, Moved, Listed, Counted, Pair}
+use Rattle.tables.specs.Row.{place, put, cut, Moved, Listed, MrtRows, Pair}
 use Rattle.rules.proofs.Positions.{all-at}
 use Rattle.tables.proofs.Places.{count-none, count-there, there-addresses, there-counts, cut-addresses, cut-counts, put-addresses, put-counts}
 use Rattle.tables.proofs.Single.{is-take, put-is, cut-is, set-is, entry-used, enter-room}
@@ -49,7 +49,7 @@ module _ (cap a : ℕ) (t : Tables) where
       let e : suc k - 1 ≡ k = omega arith in
       rw (ne-eqb (suc k) cap n, ne-eqb k 1 (λ q. w (ap suc q)), e)
 
-module _ {cap used : ℕ} {ms cs : List ℕ} (C : Counted cap ms cs used) (a p : ℕ) (e : p ≡ place a (take used ms)) where
+module _ {cap used : ℕ} {ms cs : List ℕ} (C : MrtRows cap ms cs used) (a p : ℕ) (e : p ≡ place a (take used ms)) where
   abbrev L : Listed ms used
   L = C .listed
 

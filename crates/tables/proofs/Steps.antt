@@ -16,7 +16,7 @@ use Rattle.rules.specs.Rows.{TableRows, tableRows}
 use Rattle.rules.specs.Whole.{Is, Kept, Ready}
 use Rattle.rules.specs.Invariant.{named}
 use Rattle.rules.proofs.Sorted.{insert-up, all-insert, leaveZct-kept, apply-kept}
-use Rattle.tables.specs.Row.{cut, Listed, Counted, Pair, Tabled, RowBy, MrtBy, TablesBy, ZctBy}
+use Rattle.tables.specs.Row.{cut, Listed, MrtRows, Pair, Tabled, RowBy, MrtBy, TablesBy, ZctBy}
 use Rattle.rules.proofs.Positions.{has-at}
 use Rattle.tables.proofs.Places.{place-at, remove-cut, count-none}
 use Rattle.tables.proofs.Single.{is-take, is-padded, is-listed, cut-is}
@@ -27,7 +27,7 @@ module _ {n cap : ℕ} {r : TableRows} {u : Used} {t : Tables} (R : Ready n cap 
   pub zct-listed : Listed (r .zct) (u .zct)
   zct-listed = is-listed (R .are .zct-is) (R .kept .zct-up) (R .kept .zct-below)
 
-  pub mrt-counted : 3 ≤ cap → Counted cap (r .mrt) (r .counts) (u .mrt)
+  pub mrt-counted : 3 ≤ cap → MrtRows cap (r .mrt) (r .counts) (u .mrt)
   mrt-counted big = record {
     listed = is-listed (R .are .mrt-is) (R .kept .mrt-up) (R .kept .mrt-below);
     beside = is-padded (R .are .counts-is);

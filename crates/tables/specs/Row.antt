@@ -41,7 +41,7 @@ pub record Listed (row : List ℕ) (used : ℕ) : Type 0 where
   pub below : Below (length row) (take used row)
 
 -- the rows of MRT, of one length: addresses so, and beside each a count from 2 to the cap
-pub record Counted (cap : ℕ) (ms cs : List ℕ) (used : ℕ) : Type 0 where
+pub record MrtRows (cap : ℕ) (ms cs : List ℕ) (used : ℕ) : Type 0 where
   pub listed : Listed ms used
   pub beside : Padded cs used
   pub long : length cs ≡ length ms

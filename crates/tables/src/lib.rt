@@ -8,7 +8,7 @@ ghost use Rattle.rules.specs.Table.{Ascending, has, pad, insert, remove, countI
 ghost use Rattle.rules.specs.Heap.{allocates, creates, destroys};
 ghost use Rattle.rules.specs.Rules.{onCreate, onDestroy, apply};
 ghost use Rattle.rules.specs.Lending.{tablesNow, tableEntries, tableExits};
-ghost use Rattle.tables.specs.Row.{place, put, cut, Moved, Padded, Listed, Counted, Tabled, RowBy, MrtBy, TablesBy, ZctBy};
+ghost use Rattle.tables.specs.Row.{place, put, cut, Moved, Padded, Listed, MrtRows, Tabled, RowBy, MrtBy, TablesBy, ZctBy};
 use rules::Used;
 
 // The place of the first of row's used entries that is not below a.
@@ -132,7 +132,7 @@ fn lower(cap: u32, c: u32) -> u32
 
 // A create of a pointer to a that is not in ZCT. MRT's used length afterwards.
 fn count_up(mrt: &mut [u32], counts: &mut [u32], used: usize, cap: u32, a: u32) -> usize
-    requires { ⌜ Counted cap (now mrt) (now counts) used ⌝ }
+    requires { ⌜ MrtRows cap (now mrt) (now counts) used ⌝ }
     requires { ⌜ a < length (now mrt) ⌝ }
     ensures { λ r. ⌜ MrtBy (λ t. onCreate cap a t false (countIn a (t .mrt))) (now (mrt .entry)) (now (counts .entry)) used (now (mrt .exit)) (now (counts .exit)) r ⌝ }
 {
@@ -148,7 +148,7 @@ fn count_up(mrt: &mut [u32], counts: &mut [u32], used: usize, cap: u32, a: u32) 
 
 // A destroy of a pointer to a that is in MRT. MRT's used length afterwards.
 fn count_down(mrt: &mut [u32], counts: &mut [u32], used: usize, cap: u32, a: u32) -> usize
-    requires { ⌜ Counted cap (now mrt) (now counts) used ⌝ }
+    requires { ⌜ MrtRows cap (now mrt) (now counts) used ⌝ }
     requires { ⌜ has a (take used (now mrt)) ≡ true ⌝ }
     ensures { λ r. ⌜ MrtBy (λ t. onDestroy cap a t (countIn a (t .mrt))) (now (mrt .entry)) (now (counts .entry)) used (now (mrt .exit)) (now (counts .exit)) r ⌝ }
 {

@@ -12,14 +12,14 @@ use lib.ListN.{length, take}
 use Rattle.tally.specs.declared.Place.{Place}
 
 -- each call of a batch has had a line of its own, and the two rows of a batch have their lengths
-pub record Going (calls answers : List ℤ) (place : Place) : Type 0 where
+pub record ScriptGoing (calls answers : List ℤ) (place : Place) : Type 0 where
   pub calls-length : length calls ≡ 1024
   pub answers-length : length answers ≡ 512
   pub own : place .closed + place .calls ≤ place .lines
   pub most : place .lines ≤ 1000000
 
 -- the heap's rows have the lengths that they had
-pub record Kept (k k₀ x x₀ v v₀ z z₀ m m₀ c c₀ l l₀ w w₀ : ℕ) : Type 0 where
+pub record LengthsKept (k k₀ x x₀ v v₀ z z₀ m m₀ c c₀ l l₀ w w₀ : ℕ) : Type 0 where
   pub kinds : k ≡ k₀
   pub values : x ≡ x₀
   pub variables : v ≡ v₀
@@ -32,7 +32,7 @@ pub record Kept (k k₀ x x₀ v v₀ z z₀ m m₀ c c₀ l l₀ w w₀ : ℕ) 
 pub kept-on :
     {k k₁ k₀ x x₁ x₀ v v₁ v₀ z z₁ z₀ m m₁ m₀ c c₁ c₀ l l₁ l₀ w w₁ w₀ : ℕ} →
     k ≡ k₁ → x ≡ x₁ → v ≡ v₁ → z ≡ z₁ → m ≡ m₁ → c ≡ c₁ → l ≡ l₁ → w ≡ w₁ →
-    Kept k₁ k₀ x₁ x₀ v₁ v₀ z₁ z₀ m₁ m₀ c₁ c₀ l₁ l₀ w₁ w₀ → Kept k k₀ x x₀ v v₀ z z₀ m m₀ c c₀ l l₀ w w₀
+    LengthsKept k₁ k₀ x₁ x₀ v₁ v₀ z₁ z₀ m₁ m₀ c₁ c₀ l₁ l₀ w₁ w₀ → LengthsKept k k₀ x x₀ v v₀ z z₀ m m₀ c c₀ l l₀ w w₀
 kept-on k x v z m c l w h =
     record {
       kinds = k ∙ h .kinds;

@@ -111,11 +111,11 @@ says-yes r m ws e h = record { yes = λ q. h; no = λ q. absurd (let z : _≡_ {
 -- ---- the call at a place, for the loop over the calls
 
 -- the i-th call is that of the words from 4i on, and there are four words to a call
-pub record Listed (m : ℕ) (ws : List ℤ) (cs : List Call) : Type 0 where
+pub record ListedCalls (m : ℕ) (ws : List ℤ) (cs : List Call) : Type 0 where
   pub long : length ws ≡ 4 * length cs
   pub call : (i : ℕ) → i < length cs → callAt m ws (4 * i) ≡ some (getD cs i Settle)
 
-listed-of : (m : ℕ) (ws : List ℤ) (cs : List Call) → callsOf m ws ≡ some cs → Listed m ws cs
+listed-of : (m : ℕ) (ws : List ℤ) (cs : List Call) → callsOf m ws ≡ some cs → ListedCalls m ws cs
 unfolding callsOf
 listed-of m [] [] e = record { long = refl; call = λ i h. absurd (omega arith) }
 listed-of m [] (d ∷ cs) e = absurd (let z : _≡_ {A = ℕ} 0 1 = cc in omega arith)
@@ -128,7 +128,7 @@ listed-of m (x ∷ y ∷ z ∷ w ∷ ws) (d ∷ cs) e =
     let L = listed-of m ws cs (t .1) in
     record { long = omega (arith, L .long); call = λ i h. at i h (t .0) L }
   where
-    at : (i : ℕ) → i < length (d ∷ cs) → callOf m x y z w ≡ some d → Listed m ws cs → callAt m (x ∷ y ∷ z ∷ w ∷ ws) (4 * i) ≡ some (getD (d ∷ cs) i Settle)
+    at : (i : ℕ) → i < length (d ∷ cs) → callOf m x y z w ≡ some d → ListedCalls m ws cs → callAt m (x ∷ y ∷ z ∷ w ∷ ws) (4 * i) ≡ some (getD (d ∷ cs) i Settle)
     at zero h t L = t
     at (suc i) h t L =
         let p : 4 * suc i ≡ suc (suc (suc (suc (4 * i)))) = omega arith in
@@ -137,10 +137,10 @@ listed-of m (x ∷ y ∷ z ∷ w ∷ ws) (d ∷ cs) e =
         let g : suc (suc (suc (suc (4 * i)))) + 3 ≡ suc (suc (suc (suc (4 * i + 3)))) = omega arith in
         rw (p, a, b, g) (L .call i (omega arith))
 
-pub listed : (m : ℕ) (ws : List ℤ) (cs : List Call) → callsIn m ws ≡ some cs → Listed m ws cs
+pub listed : (m : ℕ) (ws : List ℤ) (cs : List Call) → callsIn m ws ≡ some cs → ListedCalls m ws cs
 unfolding callsIn
 listed m ws cs e = go (leb (length ws) 1024) e
   where
-    go : (q : Bool) → cond q (callsOf m ws) none ≡ some cs → Listed m ws cs
+    go : (q : Bool) → cond q (callsOf m ws) none ≡ some cs → ListedCalls m ws cs
     go true e = listed-of m ws cs e
     go false e = absurd (let z : _≡_ {A = ℕ} 0 1 = cc in omega arith)

@@ -32,7 +32,7 @@ use Rattle.words.specs.Words.{callAt}
 use Rattle.words.proofs.Listing.{listed}
 use Rattle.settle.specs.Settling.{Settled, Settles}
 use Rattle.settle.proofs.Settling.{settled-whole}
-use Rattle.working.specs.Working.{Standing, Workable, Works, answering, Runnable, Batched, Runs, endedAt}
+use Rattle.working.specs.Working.{Standing, Workable, Works, answering, Runnable, ByTheRules, Runs, endedAt}
 use Rattle.working.proofs.Steps.{turn-call, turn-long, status-small}
 use Rattle.calls.specs.declared.Worked.{Worked}
 
@@ -122,7 +122,7 @@ module _ {s : Sizes} {ds : List Call} {h : Heap} {i : ℕ} {r : Lent} {row row�
       }
 
   -- none is left, and the settle at the end is made
-  ran : {r′ : Lent} {o : State} → length ds ≤ i → Settled s (P .heap .shape .variables) r′ at (P .heap) o → Batched s ds h r′ row row′ (endedAt s o)
+  ran : {r′ : Lent} {o : State} → length ds ≤ i → Settled s (P .heap .shape .variables) r′ at (P .heap) o → ByTheRules s ds h r′ row row′ (endedAt s o)
   unfolding calls answered
   ran l D =
       let none-left : drop i ds ≡ [] = drop-of-length-le ds l in
@@ -136,16 +136,16 @@ module _ {s : Sizes} {ds : List Call} {h : Heap} {i : ℕ} {r : Lent} {row row�
       }
 
 -- what the loop keeps: few cells are freed, and for every heap that the rows were its progress
-pub record Going (h : Head) (ws : List ℤ) (r : Lent) (row : List ℤ) (r′ : Lent) (row′ : List ℤ) (at : State) (i : ℕ) : Type 0 where
+pub record BatchGoing (h : Head) (ws : List ℤ) (r : Lent) (row : List ℤ) (r′ : Lent) (row′ : List ℤ) (at : State) (i : ℕ) : Type 0 where
   pub run : Runnable h ws r row
   pub most : i ≤ length (run .list)
   pub few : at .freed ≤ 1024 * i
   pub progress : (ds : List Call) (k : Heap) → callsIn (h .sizes .m) ws ≡ some ds → Standing (h .sizes) r (startOf h) k → Progress (h .sizes) ds k i r′ row row′ at
 
-pub going-first : {h : Head} {ws : List ℤ} {r : Lent} {row : List ℤ} {at : State} → Runnable h ws r row → at ≡ startOf h → Going h ws r row r row at 0
+pub going-first : {h : Head} {ws : List ℤ} {r : Lent} {row : List ℤ} {at : State} → Runnable h ws r row → at ≡ startOf h → BatchGoing h ws r row r row at 0
 going-first K e = rw e (record { run = K; most = omega arith; few = omega arith; progress = λ ds k g S. begun ds k S })
 
-module _ {h : Head} {ws : List ℤ} {r : Lent} {row : List ℤ} {r′ : Lent} {row′ : List ℤ} {at : State} {i : ℕ} (G : Going h ws r row r′ row′ at i) where
+module _ {h : Head} {ws : List ℤ} {r : Lent} {row : List ℤ} {r′ : Lent} {row′ : List ℤ} {at : State} {i : ℕ} (G : BatchGoing h ws r row r′ row′ at i) where
   pub now-at : Progress (h .sizes) (G .run .list) (G .run .heap) i r′ row row′ at
   now-at = G .progress (G .run .list) (G .run .heap) (G .run .are) (G .run .standing)
 
@@ -194,7 +194,7 @@ module _ {h : Head} {ws : List ℤ} {r : Lent} {row : List ℤ} {r′ : Lent} {r
           let k = status-small (h .sizes) c (now-at .heap) in
           omega arith
 
-      pub again : {bs : List ℤ} → bs ≡ answering i (w .status) (w .value) row′ → Going h ws r row q bs (w .state) (i + 1)
+      pub again : {bs : List ℤ} → bs ≡ answering i (w .status) (w .value) row′ → BatchGoing h ws r row q bs (w .state) (i + 1)
       again answer =
           let l = list-long in
           let f = G .few in

@@ -64,7 +64,7 @@ abbrev pub endedAt : Sizes → State → Outcome
 endedAt s at = outcome 0 (record { sizes = s; free = at .first; zct = at .used .zct; mrt = at .used .mrt }) (at .freed)
 
 -- a batch was worked whole: rows, head, count and answers are those of the rules
-pub record Batched (s : Sizes) (ds : List Call) (h : Heap) (r : Lent) (row row′ : List ℤ) (o : Outcome) : Type 0 where
+pub record ByTheRules (s : Sizes) (ds : List Call) (h : Heap) (r : Lent) (row row′ : List ℤ) (o : Outcome) : Type 0 where
   pub rows : r ≡ rowsOf s (calls s ds h .heap)
   pub is : o ≡ outcome 0 (headOf s (calls s ds h .heap)) (calls s ds h .heap .freed)
   pub answers : row′ ≡ answered (calls s ds h .answers) row
@@ -72,4 +72,4 @@ pub record Batched (s : Sizes) (ds : List Call) (h : Heap) (r : Lent) (row row�
 -- rows that are a heap are what the batch in the words makes of it, with its head, its count and its answers
 abbrev pub Runs : Head → List ℤ → Lent → List ℤ → Lent → List ℤ → Outcome → Type 0
 Runs h ws r row r′ row′ o =
-    (ds : List Call) (k : Heap) → callsIn (h .sizes .m) ws ≡ some ds → Standing (h .sizes) r (startOf h) k → Batched (h .sizes) ds k r′ row row′ o
+    (ds : List Call) (k : Heap) → callsIn (h .sizes .m) ws ≡ some ds → Standing (h .sizes) r (startOf h) k → ByTheRules (h .sizes) ds k r′ row row′ o

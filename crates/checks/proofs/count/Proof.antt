@@ -4,13 +4,13 @@ use borrow.Author.Needs.{needs}
 use mathlib.Core.Logic.{⊎-elim}
 use Prim.Native.Nat.{_≤_, _-_, _*_}
 use lib.ListN.{length, length-replicate}
-use Rattle.checks.specs.Counts.{Counted}
+use Rattle.checks.specs.Counts.{CountedTo}
 use Rattle.checks.proofs.Tally.{counted-none, counted-more, counted-same, pointers-most}
 use Rattle.checks.proofs.count.Statement.{statement}
 use Rattle.checks.proofs.count.Tie as tie
 
 abbrev Inv-loop : tie.InvT-loop
-Inv-loop kinds values n work₀ end i₀ work i = (length work₀ ≡ n) × ((end ≡ 2 * n) × ((i ≤ 2 * n) × Counted n kinds values i work))
+Inv-loop kinds values n work₀ end i₀ work i = (length work₀ ≡ n) × ((end ≡ 2 * n) × ((i ≤ 2 * n) × CountedTo n kinds values i work))
 
 abbrev μ-loop : tie.MeasureT-loop
 μ-loop kinds values n work₀ end i₀ work i = 2 * n - i
@@ -60,8 +60,8 @@ loop-again c =
         l .inv .1 .0,
         (
           omega arith,
-          ⊎-elim (λ w. subst (Counted _ _ _ _) (sym (w .2)) (counted-more _ _ _ _ _ v _ s (w .0 .taken)))
-              (λ w. subst (Counted _ _ _ _) (sym (w .1)) (counted-same _ _ _ _ _ v _ s (w .0 .left))) (c .if1 .came),
+          ⊎-elim (λ w. subst (CountedTo _ _ _ _) (sym (w .2)) (counted-more _ _ _ _ _ v _ s (w .0 .taken)))
+              (λ w. subst (CountedTo _ _ _ _) (sym (w .1)) (counted-same _ _ _ _ _ v _ s (w .0 .left))) (c .if1 .came),
         ),
       ),
     )

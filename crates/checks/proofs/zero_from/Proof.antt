@@ -2,12 +2,12 @@ use Prim.Native.Nat.{_≤_, _-_}
 use native.Mathlib.Omega.{arith}
 use lib.ListN.{length}
 use Rattle.rules.proofs.Answers.{is, isn't}
-use Rattle.checks.proofs.Gathered.{Gathered, gathered-none, gathered-more}
+use Rattle.checks.proofs.GatheredUp.{GatheredUp, gathered-none, gathered-more}
 use Rattle.checks.proofs.zero_from.Statement.{statement}
 use Rattle.checks.proofs.zero_from.Tie as tie
 
 abbrev Inv-loop : tie.InvT-loop
-Inv-loop row from seen₀ j₀ seen j = (from ≤ j) × Gathered row from j seen
+Inv-loop row from seen₀ j₀ seen j = (from ≤ j) × GatheredUp row from j seen
 
 abbrev μ-loop : tie.MeasureT-loop
 μ-loop row from seen₀ j₀ seen j = length row - j

@@ -10,7 +10,7 @@ use Rattle.rules.specs.Heap.{Heap}
 use Rattle.rules.specs.Rows.{HeapRows, tableRows}
 use Rattle.rules.specs.Whole.{Rows}
 use Rattle.cells.specs.Marks.{Marks}
-use Rattle.reclaim.proofs.Reclaiming.{Going, going-first, going-next, scan, done-early, done-late, heaped, Lengths, lengths}
+use Rattle.reclaim.proofs.Reclaiming.{TurnsGoing, going-first, going-next, scan, done-early, done-late, heaped, HeapLengths, lengths}
 use Rattle.reclaim.proofs.reclaim.Statement.{statement}
 use Rattle.reclaim.proofs.reclaim.Tie as tie
 
@@ -19,7 +19,7 @@ rows ks xs zs ms cs = record { kinds = ks; values = xs; tables = tableRows zs ms
 
 abbrev Inv-loop : tie.InvT-loop
 Inv-loop kinds₀ values₀ zct₀ mrt₀ counts₀ work cap most turn₀ k₀ kinds values zct mrt counts turn k =
-    (k ≤ most) × ((n : ℕ) (hs : List (Option ℕ)) (h : Heap) → Rows n cap (rows kinds₀ values₀ zct₀ mrt₀ counts₀) (turn₀ .at) h → Marks n work hs → Going n cap hs k (rows kinds values zct mrt counts) (turn₀ .at) h turn)
+    (k ≤ most) × ((n : ℕ) (hs : List (Option ℕ)) (h : Heap) → Rows n cap (rows kinds₀ values₀ zct₀ mrt₀ counts₀) (turn₀ .at) h → Marks n work hs → TurnsGoing n cap hs k (rows kinds values zct mrt counts) (turn₀ .at) h turn)
 
 abbrev μ-loop : tie.MeasureT-loop
 μ-loop kinds₀ values₀ zct₀ mrt₀ counts₀ work cap most turn₀ k₀ kinds values zct mrt counts turn k =
@@ -32,10 +32,10 @@ abbrev here : tie.Else1 Inv-loop μ-loop → tie.At-loop Inv-loop μ-loop
 here c = search needs
 
 -- the rows' lengths at the start, and at the loop's test
-was : (l : tie.At-loop Inv-loop μ-loop) → let a = start l .args in Lengths (length (a .zct .now)) (rows (a .kinds .now) (a .values .now) (a .zct .now) (a .mrt .now) (a .counts .now))
+was : (l : tie.At-loop Inv-loop μ-loop) → let a = start l .args in HeapLengths (length (a .zct .now)) (rows (a .kinds .now) (a .values .now) (a .zct .now) (a .mrt .now) (a .counts .now))
 was l = lengths (start l .pre .rows)
 
-is : (l : tie.At-loop Inv-loop μ-loop) → Lengths (length (start l .args .zct .now)) (rows (l .loop .kinds) (l .loop .values) (l .loop .zct) (l .loop .mrt) (l .loop .counts))
+is : (l : tie.At-loop Inv-loop μ-loop) → HeapLengths (length (start l .args .zct .now)) (rows (l .loop .kinds) (l .loop .values) (l .loop .zct) (l .loop .mrt) (l .loop .counts))
 is l =
     let S = start l .pre in
     lengths (l .loop .inv .1 _ _ (S .heap) (S .rows) (S .marks) .rows)

@@ -8,13 +8,13 @@ use lib.ListN.{length}
 use borrow.Author.Needs.{needs}
 use Rattle.rules.specs.Rows.{lent}
 use Rattle.settle.proofs.Settling.{settleable}
-use Rattle.working.proofs.Loop.{long-of, Going, going-first, now-at, small-i, answers-same, few-here, workable, roomy, status-here, again, finish}
+use Rattle.working.proofs.Loop.{long-of, BatchGoing, going-first, now-at, small-i, answers-same, few-here, workable, roomy, status-here, again, finish}
 use Rattle.working.proofs.run_batch.Statement.{statement}
 use Rattle.working.proofs.run_batch.Tie as tie
 
 abbrev Inv-loop : tie.InvT-loop
 Inv-loop calls kinds₀ values₀ variables₀ zct₀ mrt₀ counts₀ log₀ work₀ answers₀ head at₀ i₀ kinds values variables zct mrt counts log work answers at i =
-    Going head calls (lent kinds₀ values₀ variables₀ zct₀ mrt₀ counts₀ log₀ work₀) answers₀ (lent kinds values variables zct mrt counts log work) answers at i
+    BatchGoing head calls (lent kinds₀ values₀ variables₀ zct₀ mrt₀ counts₀ log₀ work₀) answers₀ (lent kinds values variables zct mrt counts log work) answers at i
 
 abbrev μ-loop : tie.MeasureT-loop
 μ-loop calls kinds₀ values₀ variables₀ zct₀ mrt₀ counts₀ log₀ work₀ answers₀ head at₀ i₀ kinds values variables zct mrt counts log work answers at i =
