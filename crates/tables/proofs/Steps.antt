@@ -15,10 +15,11 @@ use Rattle.rules.specs.Rows.{TableRows, tableRows}
 use Rattle.rules.specs.Whole.{Is, Kept, Ready}
 use Rattle.rules.specs.Invariant.{named}
 use Rattle.rules.proofs.Sorted.{insert-up, all-insert, leaveZct-kept, apply-kept}
+use Rattle.rules.proofs.Unique.{is-take}
 use Rattle.tables.specs.Row.{cut, Listed, Counted, Pair, Tabled, RowBy, MrtBy, TablesBy, ZctBy}
 use Rattle.rules.proofs.Positions.{has-at}
 use Rattle.tables.proofs.Places.{place-at, remove-cut, count-none}
-use Rattle.tables.proofs.Single.{is-take, is-padded, is-listed, cut-is}
+use Rattle.tables.proofs.Single.{is-padded, is-listed, cut-is}
 use Rattle.tables.proofs.Pairs.{pair-count, count-is}
 
 -- rows that are tables over addresses below n, as the code wants them
