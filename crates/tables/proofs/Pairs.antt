@@ -13,9 +13,10 @@ use Rattle.rules.specs.Table.{Entry, has, enter, delete, countIn, addresses, pa
 use Rattle.rules.specs.Heap.{Tables}
 use Rattle.rules.specs.Rules.{enterMrt, leaveMrt, onCreate, onDestroy}
 use Rattle.tables.specs.Row.{place, put, cut, Moved, Listed, MrtRows, Pair}
+use Rattle.rules.proofs.Unique.{is-take}
 use Rattle.rules.proofs.Positions.{all-at}
 use Rattle.tables.proofs.Places.{count-none, count-there, there-addresses, there-counts, cut-addresses, cut-counts, put-addresses, put-counts}
-use Rattle.tables.proofs.Single.{is-take, put-is, cut-is, set-is, entry-used, enter-room}
+use Rattle.tables.proofs.Single.{put-is, cut-is, set-is, entry-used, enter-room}
 
 -- what a transaction makes of MRT, by the count beside a
 module _ (cap a : ℕ) (t : Tables) where

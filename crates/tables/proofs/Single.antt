@@ -5,10 +5,11 @@ use mathlib.Core.List.{List}
 use Prim.Native.Nat.{ℕ, _+_, _-_, _≤_, _<_}
 use native.Mathlib.Omega.{arith}
 use lib.ListN.{length, take, set, replicate, length-append, length-set}
-use lib.Seq.{length-take-le, take-at, set-append-left}
+use lib.Seq.{length-take-le, set-append-left}
 use Rattle.rules.specs.Table.{has, insert, remove, pad, Below, Ascending}
 use Rattle.rules.specs.Whole.{Is}
 use Rattle.rules.proofs.Roundtrip.{length-pad}
+use Rattle.rules.proofs.Unique.{is-take}
 use Rattle.tables.specs.Row.{place, put, cut, Padded, Listed}
 use Rattle.tables.proofs.Laws.{length-put, length-cut, place-used}
 use Rattle.tables.proofs.Places.{has-used, insert-there, insert-put, remove-cut, room}
@@ -18,17 +19,14 @@ is-pad n used row z h l e = record { long = ap length e ∙ length-pad n z h; co
 
 -- a row that is the list z
 module _ {n used : ℕ} {row z : List ℕ} (I : Is n row used z) where
-  pub is-take : take used row ≡ z
-  is-take = ap (take used) (I .padded) ∙ take-at z (replicate (n - length z) 0) used (sym (I .count))
-
   pub is-padded : Padded row used
   is-padded = record {
     fits = omega (arith, ap length (I .padded) ∙ length-append z (replicate (n - length z) 0), I .count);
-    zeros = rw is-take (rw (I .long) (I .padded));
+    zeros = rw (is-take I) (rw (I .long) (I .padded));
   }
 
   pub is-listed : Ascending z → Below n z → Listed row used
-  is-listed up below = record { padded = is-padded; up = rw is-take up; below = rw (is-take, I .long) below }
+  is-listed up below = record { padded = is-padded; up = rw (is-take I) up; below = rw (is-take I, I .long) below }
 
 -- a store to the used part
 pub padded-set : (row : List ℕ) (used p v : ℕ) → Padded row used → p < used → set row p v ≡ pad (length row) (set (take used row) p v)
