@@ -2,7 +2,7 @@ use Prim.Native.Nat.{_≤_, _-_}
 use native.Mathlib.Omega.{arith}
 use lib.ListN.{length}
 use Rattle.rules.proofs.Answers.{is, isn't}
-use Rattle.checks.proofs.GatheredUp.{GatheredUp, gathered-none, gathered-more}
+use Rattle.checks.proofs.Gathered.{GatheredUp, gathered-none, gathered-more}
 use Rattle.checks.proofs.zero_from.Statement.{statement}
 use Rattle.checks.proofs.zero_from.Tie as tie
 

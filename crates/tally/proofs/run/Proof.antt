@@ -4,13 +4,13 @@ use mathlib.Core.Path.{_∙_, sym}
 use native.Mathlib.Omega.{arith}
 use borrow.Author.Needs.{needs}
 use lib.ListN.{length}
-use Rattle.tally.proofs.ScriptGoing.{ScriptGoing, Kept, kept-on, part-fits, part-within, part-length}
+use Rattle.tally.proofs.Going.{ScriptGoing, LengthsKept, kept-on, part-fits, part-within, part-length}
 use Rattle.tally.proofs.run.Statement.{statement}
 use Rattle.tally.proofs.run.Tie as tie
 
 abbrev Inv-loop : tie.InvT-loop
 Inv-loop text start sizes kinds₀ values₀ variables₀ zct₀ mrt₀ counts₀ log₀ work₀ head₀ calls₀ answers₀ place₀ kinds values variables zct mrt counts log work head calls answers place =
-    ScriptGoing calls answers place × Kept (length kinds) (length kinds₀) (length values) (length values₀) (length variables) (length variables₀) (length zct) (length zct₀) (length mrt) (length mrt₀) (length counts) (length counts₀) (length log) (length log₀) (length work) (length work₀)
+    ScriptGoing calls answers place × LengthsKept (length kinds) (length kinds₀) (length values) (length values₀) (length variables) (length variables₀) (length zct) (length zct₀) (length mrt) (length mrt₀) (length counts) (length counts₀) (length log) (length log₀) (length work) (length work₀)
 
 abbrev μ-loop : tie.MeasureT-loop
 μ-loop text start sizes kinds₀ values₀ variables₀ zct₀ mrt₀ counts₀ log₀ work₀ head₀ calls₀ answers₀ place₀ kinds values variables zct mrt counts log work head calls answers place =
