@@ -1,5 +1,5 @@
 #!/usr/bin/env python3
-"""Document 01 as a plain program, written from the paper alone: it gives the expected output of crates/cases.
+"""Document 01, with request A2, as a plain program, written from the papers alone: it gives the expected output of crates/cases.
 
     tests/model.py < crates/cases/stdin      prints what crates/cases/stdout holds
 
@@ -144,7 +144,7 @@ class Heap:
         if op == 7 and self.kinds[i] != 2:
             return 12, 0
         if op == 8 and self.kinds[i] != 1:
-            return 13, 0
+            return 15 if self.kinds[i] == 0 else 13, 0
         need = 1 if op == 1 else (op == 4) + (op in (4, 5, 6) and self.kinds[i] == 2)
         if len(self.log) + need > self.l or op == 1 and self.free == self.n:
             self.settle()

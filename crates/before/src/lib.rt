@@ -7,7 +7,7 @@ ghost use Prim.Native.Nat.{ℕ, _<_, _≤_};
 ghost use lib.ListN.{length, getD};
 ghost use Rattle.rules.specs.declared.Call.the-variants.{Do};
 ghost use Rattle.rules.specs.Heap.{Shape};
-ghost use Rattle.rules.specs.Call.{drops, var, at, isHeld, isCell, isFigure, want, refuses, check, makes, logs};
+ghost use Rattle.rules.specs.Call.{drops, var, at, isHeld, isCell, noFigure, want, refuses, check, makes, logs};
 ghost use Rattle.rules.specs.Step.{needs};
 ghost use Rattle.before.specs.Seen.{Held, Shown, Reach, Reaches};
 use cells::field_at;
@@ -56,17 +56,6 @@ fn is_cell(f: Field) -> bool
     }
 }
 
-fn is_figure(f: Field) -> bool
-    ensures { λ r. ⌜ r ≡ isFigure f ⌝ }
-{
-    match f {
-        Field::Nothing => false,
-        Field::Figure(_) => true,
-        Field::Cell(_) => false,
-        Field::Free(_) => false,
-    }
-}
-
 // ---- what refuses it
 
 // 0, or the number that says no.
@@ -111,7 +100,19 @@ fn check_follow(
     eleven_first(variables, v, n, want(is_cell(old), 12))
 }
 
-// 11 where v holds nothing, 13 where its field f is no figure.
+// What says no to a read of a field: 15, it holds nothing; 13, it holds a cell.
+fn no_figure(f: Field) -> usize
+    ensures { λ r. ⌜ r ≡ noFigure f ⌝ }
+{
+    match f {
+        Field::Nothing => 15,
+        Field::Figure(_) => 0,
+        Field::Cell(_) => 13,
+        Field::Free(_) => 13,
+    }
+}
+
+// 11 where v holds nothing, 15 where its field f does, 13 where it holds a cell.
 fn check_read(
     kinds: &[u8],
     values: &[i32],
@@ -121,13 +122,13 @@ fn check_read(
     f: usize,
 ) -> usize
     requires { ⌜ Reach n (now kinds) (now values) (now variables) v f ⌝ }
-    ensures { λ r. ⌜ ((s : Shape) → Shown n (now (kinds .entry)) (now (values .entry)) (now (variables .entry)) s → r ≡ cond (isHeld (var s v)) (want (isFigure (at s v f)) 13) 11) ⌝ }
+    ensures { λ r. ⌜ ((s : Shape) → Shown n (now (kinds .entry)) (now (values .entry)) (now (variables .entry)) s → r ≡ cond (isHeld (var s v)) (noFigure (at s v f)) 11) ⌝ }
 {
     let old = field_of(kinds, values, variables, n, v, f);
-    eleven_first(variables, v, n, want(is_figure(old), 13))
+    eleven_first(variables, v, n, no_figure(old))
 }
 
-// 0, or the number that says no to a deed: 11, 12 or 13.
+// 0, or the number that says no to a deed: 11, 12, 13 or 15.
 fn refuses(deed: Deed, kinds: &[u8], values: &[i32], variables: &[i32], n: usize) -> usize
     requires { ⌜ Reaches n (now kinds) (now values) (now variables) (Do deed) ⌝ }
     ensures { λ r. ⌜ ((s : Shape) → Shown n (now (kinds .entry)) (now (values .entry)) (now (variables .entry)) s → r ≡ refuses deed s) ⌝ }

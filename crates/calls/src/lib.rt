@@ -224,7 +224,7 @@ fn take(
     }
 }
 
-// What a deed does: it was not refused by 11 to 13, and its entries have room in the log.
+// What a deed does: it passed its check, and its entries have room in the log.
 fn do_deed(
     deed: Deed,
     kinds: &mut [u8],

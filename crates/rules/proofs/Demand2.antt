@@ -33,7 +33,7 @@ use Rattle.rules.proofs.Step.{settled-done, step-inv}
 use Rattle.rules.proofs.Roundtrip.{rows-of-heap}
 use Rattle.rules.proofs.Whole.{twice}
 use Rattle.rules.proofs.Entry.{entry-ended, exit-ended, exit-sized, exit-sound}
-use Rattle.rules.proofs.Demand1.{Accepts, taken, same-calls, answers-long, audit-0, audit-4, demand-1}
+use Rattle.rules.proofs.Demand1.{Accepts, taken, same-calls, answers-long, audit-0, audit-4, accepted-as}
 use Rattle.rules.proofs.Facts as facts
 
 -- ---- free cells and cells in use
@@ -112,10 +112,7 @@ new-calls m v k = rw (lt-ltb v m k)
 
 module _ {h : Head} {r : Lent} (Z : Sized h r) (S : Sound h r) (v : ℕ) (k : v < h .sizes .m) (row : List ℤ) (room : 2 ≤ length row) where
   new-left : batchOf h r (newWords v) row ≡ accepted h r (New v ∷ []) row
-  new-left =
-      let e = demand-1 .accepted-else h r (newWords v) row Z (record { calls = New v ∷ []; decoded = new-calls (h .sizes .m) v k; room = room }) S in
-      let t = taken h r (newWords v) row e in
-      t .left ∙ ap (λ (cs : List Call). accepted h r cs row) (same-calls h r (newWords v) row (t .callable .calls) (New v ∷ []) (t .callable .decoded) (new-calls (h .sizes .m) v k))
+  new-left = accepted-as h r (newWords v) row (New v ∷ []) Z (new-calls (h .sizes .m) v k) room S
 
   new-status : getD (accepted h r (New v ∷ []) row .answers) 0 (negsuc 0) ≡ pos (step (h .sizes) (New v) (heapOf h r) .answer .status)
   unfolding accepted answered batch calls heapOf

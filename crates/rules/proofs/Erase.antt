@@ -15,7 +15,7 @@ use Rattle.rules.specs.declared.Call.{Call}
 use Rattle.rules.specs.declared.Call.the-variants.{New, Do, Settle}
 use Rattle.rules.specs.declared.Sizes.{Sizes}
 use Rattle.rules.specs.Heap.{Shape, Heap, place, field, store}
-use Rattle.rules.specs.Call.{drops, Answer, unless, var, at, isCell, isFigure, refuses, check, logs, write, hold, toCell, target, act, value}
+use Rattle.rules.specs.Call.{drops, Answer, unless, var, at, isCell, noFigure, refuses, check, logs, write, hold, toCell, target, act, value}
 use Rattle.rules.specs.Settle.{pick, freeCell, onPick, reclaim, replayed, settledBy, settled}
 use Rattle.rules.specs.Step.{Stepped, refused, full, noneFree, wants, settledIf, settledFor, after, takeCell, doNew, doDeed, acted, run, step, calls, unfreed, batch}
 use Rattle.rules.proofs.Lists.{map-set}
@@ -73,7 +73,7 @@ target-erase (Figure x) = refl
 target-erase (Cell a) = refl
 target-erase (Free a) = refl
 
-is-erase : (x : Field) → (isCell (eraseF x) ≡ isCell x) × (isFigure (eraseF x) ≡ isFigure x)
+is-erase : (x : Field) → (isCell (eraseF x) ≡ isCell x) × (noFigure (eraseF x) ≡ noFigure x)
 is-erase Nothing = (refl, refl)
 is-erase (Figure x) = (refl, refl)
 is-erase (Cell a) = (refl, refl)

@@ -11,7 +11,8 @@ use lib.IntN.{pos}
 use lib.ListN.{length}
 use lib.Seq.{getD-set-same}
 use borrow.Author.Tests.{ne-eqb}
-use Rattle.rules.specs.declared.Field.the-variants.{Nothing}
+use Rattle.rules.specs.declared.Field.{Field}
+use Rattle.rules.specs.declared.Field.the-variants.{Nothing, Figure, Cell, Free}
 use Rattle.rules.specs.declared.Deed.{Deed}
 use Rattle.rules.specs.declared.Deed.the-variants.{Copy, Clear, Link, Put, Blank, Follow, Read, Same}
 use Rattle.rules.specs.declared.Call.{Call}
@@ -21,8 +22,8 @@ use Rattle.rules.specs.Table.{has}
 use Rattle.rules.specs.Rules.{replay}
 use Rattle.rules.specs.Heap.{Shape, Heap, place, field}
 use Rattle.rules.specs.Settle.{holds, pick, reclaim, replayed, settledBy, settled}
-use Rattle.rules.specs.Call.{Answer, InRange, Fits, AllFit, unless, var, at, isHeld, isCell, isFigure, want, refuses, check, hold}
-use Rattle.rules.specs.Demands.{isNew}
+use Rattle.rules.specs.Call.{Answer, InRange, Fits, AllFit, unless, var, at, isHeld, isCell, noFigure, want, refuses, check, hold}
+use Rattle.rules.specs.Demands.{reasons, Answers, isNew}
 use Rattle.rules.specs.Step.{Stepped, refused, settledIf, full, noneFree, takeCell, doNew, run, step, calls, batch, wants, counted, settledFor, doDeed, acted, unfreed}
 use Rattle.rules.specs.Head.{Limits}
 use Rattle.rules.specs.Invariant.{refs, live, Inv, Ended, count}
@@ -60,27 +61,39 @@ madeIn (c ∷ cs) (r ∷ rs) = made c r + madeIn cs rs
 
 -- ---- refusals that need no invariant
 
-want-below : (b : Bool) (k : ℕ) → k < 14 → want b k < 14
-want-below true k h = omega arith
-want-below false k h = h
+-- a number that a check gives: 0, or one of these reasons; none is above 15
+abbrev pub Reason : List ℕ → ℕ → Type 0
+Reason l zero = Unit {0}
+Reason l (suc k) = (has (suc k) l ≡ true) × (suc k ≤ 15)
 
-then-below : (p q : Bool) (k : ℕ) → k < 14 → cond p (want q k) 11 < 14
-then-below true q k h = want-below q k h
-then-below false q k h = omega arith
+want-reason : (l : List ℕ) (b : Bool) (k : ℕ) → Reason l k → Reason l (want b k)
+want-reason l true k r = tt
+want-reason l false k r = r
 
--- the check gives 0 or 11 to 13
-pub check-below : (c : Call) (sh : Shape) → check c sh < 14
+-- 11 first
+then-reason : (l : List ℕ) (b : Bool) (k : ℕ) → Reason l 11 → Reason l k → Reason l (cond b k 11)
+then-reason l true k e r = r
+then-reason l false k e r = e
+
+figure-reason : (x : Field) → Reason (11 ∷ 13 ∷ 15 ∷ []) (noFigure x)
+figure-reason Nothing = (refl, omega arith)
+figure-reason (Figure x) = tt
+figure-reason (Cell a) = (refl, omega arith)
+figure-reason (Free a) = (refl, omega arith)
+
+-- the check gives 0 or a reason that is listed for the call
+pub check-reason : (c : Call) (sh : Shape) → Reason (reasons c) (check c sh)
 unfolding refuses
-check-below (New v) sh = omega arith
-check-below (Do (Copy v w)) sh = omega arith
-check-below (Do (Clear v)) sh = omega arith
-check-below (Do (Link v f w)) sh = want-below (isHeld (var sh v) && isHeld (var sh w)) 11 (omega arith)
-check-below (Do (Put v f x)) sh = want-below (isHeld (var sh v)) 11 (omega arith)
-check-below (Do (Blank v f)) sh = want-below (isHeld (var sh v)) 11 (omega arith)
-check-below (Do (Follow v f w)) sh = then-below (isHeld (var sh v)) (isCell (at sh v f)) 12 (omega arith)
-check-below (Do (Read v f)) sh = then-below (isHeld (var sh v)) (isFigure (at sh v f)) 13 (omega arith)
-check-below (Do (Same v w)) sh = want-below (isHeld (var sh v) && isHeld (var sh w)) 11 (omega arith)
-check-below Settle sh = omega arith
+check-reason (New v) sh = tt
+check-reason (Do (Copy v w)) sh = tt
+check-reason (Do (Clear v)) sh = tt
+check-reason (Do (Link v f w)) sh = want-reason _ (isHeld (var sh v) && isHeld (var sh w)) 11 (refl, omega arith)
+check-reason (Do (Put v f x)) sh = want-reason _ (isHeld (var sh v)) 11 (refl, omega arith)
+check-reason (Do (Blank v f)) sh = want-reason _ (isHeld (var sh v)) 11 (refl, omega arith)
+check-reason (Do (Follow v f w)) sh = then-reason _ (isHeld (var sh v)) (want (isCell (at sh v f)) 12) (refl, omega arith) (want-reason _ (isCell (at sh v f)) 12 (refl, omega arith))
+check-reason (Do (Read v f)) sh = then-reason _ (isHeld (var sh v)) (noFigure (at sh v f)) (refl, omega arith) (figure-reason (at sh v f))
+check-reason (Do (Same v w)) sh = want-reason _ (isHeld (var sh v) && isHeld (var sh w)) 11 (refl, omega arith)
+check-reason Settle sh = tt
 
 module _ (s : Sizes) where
   -- new says 14 exactly where no cell is free after the settle, if one was made
@@ -120,7 +133,7 @@ module _ (s : Sizes) where
   run-refused (Do d) h k e = absurd (omega arith)
   run-refused Settle h k e = absurd (omega arith)
 
-  -- a call refused has value nought; by 11 to 13 it leaves the heap as it was, by 14 after one settle
+  -- a call refused has value nought; by its check it leaves the heap as it was, by 14 after one settle
   abbrev pub Refused : Call → Heap → ℕ → Stepped → Type 0
   Refused c h k o = (o .answer .value ≡ pos 0) × (((check c (h .shape) ≡ suc k) × (o .heap ≡ h)) ⊎ ((suc k ≡ 14) × (o .heap ≡ settledBy s (counted c h) h)))
 
@@ -131,6 +144,24 @@ module _ (s : Sizes) where
       go : (q : ℕ) → check c (h .shape) ≡ q → unless q (refused h) (run s c h) .answer .status ≡ suc k → Refused c h k (unless q (refused h) (run s c h))
       go zero d e = let r = run-refused c h k e in (r .0, inr (r .1))
       go (suc j) d e = (refl, inl (d ∙ e, refl))
+
+-- a call is answered 0, or with one of its reasons and the value nought
+pub step-answers : (s : Sizes) (c : Call) (h : Heap) → Answers c (pos (step s c h .answer .status)) (step s c h .answer .value)
+unfolding step run acted doNew doDeed
+step-answers s c h = go (check c (h .shape)) refl
+  where
+    new-answers : (q : Bool) (v : ℕ) (k : Heap) → Answers (New v) (pos (doNew q v k .answer .status)) (doNew q v k .answer .value)
+    new-answers true v k = (refl, refl)
+    new-answers false v k = tt
+
+    ran : (c : Call) → Answers c (pos (run s c h .answer .status)) (run s c h .answer .value)
+    ran (New v) = new-answers (noneFree s (settledFor s (New v) h)) v (settledFor s (New v) h)
+    ran (Do d) = tt
+    ran Settle = tt
+
+    go : (k : ℕ) → check c (h .shape) ≡ k → Answers c (pos (unless k (refused h) (run s c h) .answer .status)) (unless k (refused h) (run s c h) .answer .value)
+    go zero d = ran c
+    go (suc k) d = ((rw d at (check-reason c (h .shape))) .0, refl)
 
 taken-freed : (v : ℕ) (h : Heap) → takeCell v h .freed ≡ h .freed
 unfolding takeCell

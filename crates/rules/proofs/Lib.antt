@@ -14,6 +14,7 @@ pub mod Calls
 pub mod Step
 pub mod Fresh
 pub mod Facts
+pub mod Inside
 pub mod Positions
 pub mod Bridge
 pub mod Roundtrip

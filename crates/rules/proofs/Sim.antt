@@ -14,7 +14,7 @@ use Rattle.rules.specs.declared.Field.the-variants.{Nothing, Figure, Cel
 use Rattle.rules.specs.declared.Deed.{Deed}
 use Rattle.rules.specs.declared.Deed.the-variants.{Copy, Clear, Link, Put, Blank, Follow, Read, Same}
 use Rattle.rules.specs.Heap.{Shape, place, field, store}
-use Rattle.rules.specs.Call.{InRange, var, at, isHeld, isCell, isFigure, want, refuses, write, hold, toCell, target, act, figureOf, sameCell, value}
+use Rattle.rules.specs.Call.{InRange, var, at, isHeld, isCell, noFigure, want, refuses, write, hold, toCell, target, act, figureOf, sameCell, value}
 use Rattle.rules.proofs.Cells.{length-store, field-other, field-same, field-across}
 use Rattle.rules.proofs.Calls.{held-11, two-11}
 
@@ -65,7 +65,7 @@ cell-ren ρ (Figure x) = refl
 cell-ren ρ (Cell a) = refl
 cell-ren ρ (Free a) = refl
 
-figure-ren : (ρ : ℕ → ℕ) (x : Field) → (isFigure (renF ρ x) ≡ isFigure x) × (figureOf (renF ρ x) ≡ figureOf x)
+figure-ren : (ρ : ℕ → ℕ) (x : Field) → (noFigure (renF ρ x) ≡ noFigure x) × (figureOf (renF ρ x) ≡ figureOf x)
 figure-ren ρ Nothing = (refl, refl)
 figure-ren ρ (Figure x) = (refl, refl)
 figure-ren ρ (Cell a) = (refl, refl)

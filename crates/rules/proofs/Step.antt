@@ -147,7 +147,7 @@ module _ (s : Sizes) (ok : Limits s) where
   unfolding wants full settledIf
   unsettled d h g e = rw (e, le-ltb (s .l) (length (h .log) + 0) (let r = g .log-room in omega arith))
 
-  -- what passed 11 to 13 passes after the settle too
+  -- what passed its check passes after the settle too
   pub for-right : (c : Call) (h : Heap) → Inv s h → check c (h .shape) ≡ 0 → check c (settledFor s c h .shape) ≡ 0
   unfolding refuses logs var
   for-right (New v) h g e = refl

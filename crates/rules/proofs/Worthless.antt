@@ -1,18 +1,20 @@
 -- Each worthless heap breaks a named fact of a demand. Assumes nothing.
 use Prim.Native.Nat.{ℕ}
 use mathlib.Core.Path.{_≡_, refl, sym, _∙_}
-use mathlib.Core.Bool.{false, false≢true}
+use mathlib.Core.Bool.{true, false, false≢true}
 use mathlib.Core.Option.{some}
-use mathlib.Core.List.{List, [], _∷_}
+use mathlib.Core.List.{List, [], _∷_, _++_}
 use native.Mathlib.Omega.{arith}
 use lib.IntN.{ℤ, pos, negsuc}
 use lib.ListN.{getD}
 use Rattle.rules.specs.declared.Head.{Head}
+use Rattle.rules.specs.declared.Deed.the-variants.{Link, Follow}
+use Rattle.rules.specs.declared.Call.the-variants.{Do}
 use Rattle.rules.specs.Head.{freshHead, sized}
 use Rattle.rules.specs.Sound.{Sound, Sized, Word, heldAmong}
 use Rattle.rules.specs.Decide.{sound?, sized?, dec-word}
-use Rattle.rules.specs.Demands.{Demand1, Demand2, Demand3, newWords, freeCells}
-use Rattle.rules.specs.Worthless.{saysFour, saysFourteen, answersNought, freesNothing, freesOnce, madeUpCount}
+use Rattle.rules.specs.Demands.{Demand1, Demand2, Demand3, AllAnswer, readWords, Finds, newWords, freeCells}
+use Rattle.rules.specs.Worthless.{saysFour, saysFourteen, answersNought, freesNothing, freesOnce, madeUpCount, thirteenForNothing, fifteenForCell, fifteenForEleven, fifteenForTwelve}
 use Rattle.rules.proofs.Tests.{sized-true, sound-true}
 use Rattle.rules.specs.Rows as R
 use Rattle.rules.specs.Rules as U
@@ -48,6 +50,9 @@ sound₀ = sound-true h₀ r₀ refl
 abbrev two : List ℤ
 two = pos 0 ∷ pos 0 ∷ []
 
+abbrev four : List ℤ
+four = pos 0 ∷ pos 0 ∷ pos 0 ∷ pos 0 ∷ []
+
 abbrev six : List ℤ
 six = pos 0 ∷ pos 0 ∷ pos 0 ∷ pos 0 ∷ pos 0 ∷ pos 0 ∷ []
 
@@ -67,6 +72,16 @@ seven =
       answers = six;
     }
 
+-- read 0 0; link 0 0 0; follow 0 0 0
+abbrev read₀ : List ℤ
+read₀ = readWords 0 0
+
+abbrev link₀ : List ℤ
+link₀ = pos 4 ∷ pos 0 ∷ pos 0 ∷ pos 0 ∷ []
+
+abbrev follow₀ : List ℤ
+follow₀ = pos 7 ∷ pos 0 ∷ pos 0 ∷ pos 0 ∷ []
+
 -- what they give, by computation
 record Computed : Type 0 where
   says-14 : getD (saysFourteen .batch h₀ r₀ (newWords 0) two .answers) 0 (negsuc 0) ≡ pos 14
@@ -82,7 +97,20 @@ record Computed : Type 0 where
   count-accepted : madeUpCount .batch h₀ r₀ [] [] .outcome .status ≡ 0
   count-1 : madeUpCount .batch h₀ r₀ [] [] .outcome .count ≡ 1
   count-free : freeCells (madeUpCount .batch h₀ r₀ [] [] .rows) ≡ 1
-  count-calls : C.callsIn 1 [] ≡ some []
+  no-calls : C.callsIn 1 [] ≡ some []
+  nothing-read : thirteenForNothing .batch h₁ r₁ read₀ two .outcome .status ≡ 0
+  nothing-13 : getD (thirteenForNothing .batch h₁ r₁ read₀ two .answers) 0 (negsuc 0) ≡ pos 13
+  nothing-there : Finds (thirteenForNothing .batch h₁ r₁ [] two .rows) 0 0 0
+  link-call : C.callsIn 1 link₀ ≡ some (Do (Link 0 0 0) ∷ [])
+  cell-read : fifteenForCell .batch h₁ r₁ (link₀ ++ read₀) four .outcome .status ≡ 0
+  cell-15 : getD (fifteenForCell .batch h₁ r₁ (link₀ ++ read₀) four .answers) 2 (negsuc 0) ≡ pos 15
+  cell-there : Finds (fifteenForCell .batch h₁ r₁ link₀ four .rows) 0 0 2
+  empty-read : fifteenForEleven .batch h₀ r₀ read₀ two .outcome .status ≡ 0
+  empty-15 : getD (fifteenForEleven .batch h₀ r₀ read₀ two .answers) 0 (negsuc 0) ≡ pos 15
+  empty-there : getD (fifteenForEleven .batch h₀ r₀ [] two .rows .variables) 0 (negsuc 0) ≡ negsuc 0
+  follow-call : C.callsIn 1 follow₀ ≡ some (Do (Follow 0 0 0) ∷ [])
+  follow-done : fifteenForTwelve .batch h₁ r₁ follow₀ two .outcome .status ≡ 0
+  follow-15 : AllAnswer (N.said (Do (Follow 0 0 0) ∷ []) (fifteenForTwelve .batch h₁ r₁ follow₀ two .answers)) → false ≡ true
 
 computed : Computed
 unfolding F.isSized F.isSound sound? sized? dec-word Word F.batchOf F.checkCalls F.checkAnswers F.checkSound F.accepted F.answered R.rowsOf R.headOf R.heapOf C.callOf C.callsOf C.callsIn U.enterZct U.leaveZct U.enterMrt U.leaveMrt U.onCreate U.onDestroy U.apply U.replay H.place H.field H.store S.freeCell S.reclaim S.replayed S.settledBy S.settled C.var C.at C.refuses C.logs C.write C.hold C.act C.value T.full T.noneFree T.wants T.settledIf T.takeCell T.doNew T.doDeed T.acted T.run T.step T.calls T.batch T.freeFrom T.fresh N.runFrom N.runOf N.saidIn E.endless E.endlessRun E.endlessStep F.freshOf
@@ -101,7 +129,20 @@ computed =
       count-accepted = refl;
       count-1 = refl;
       count-free = refl;
-      count-calls = refl;
+      no-calls = refl;
+      nothing-read = refl;
+      nothing-13 = refl;
+      nothing-there = record { cell = 0; held = refl; there = refl };
+      link-call = refl;
+      cell-read = refl;
+      cell-15 = refl;
+      cell-there = record { cell = 0; held = refl; there = refl };
+      empty-read = refl;
+      empty-15 = refl;
+      empty-there = refl;
+      follow-call = refl;
+      follow-done = refl;
+      follow-15 = λ a. a .0 .0;
     }
 
 -- 4 to all: an empty batch on a fresh heap, which is sound
@@ -134,7 +175,36 @@ worthless-frees-once d =
 -- a made-up count: an empty batch on a fresh heap frees none
 pub worthless-count : Demand2 madeUpCount → ⊥
 worthless-count d =
-    let e = d .count-is-freed h₀ r₀ [] [] [] (computed .count-calls) (computed .count-accepted) in
+    let e = d .count-is-freed h₀ r₀ [] [] [] (computed .no-calls) (computed .count-accepted) in
     let k = computed .count-1 in
     let f = computed .count-free in
     omega arith
+
+-- ---- a read's status
+
+-- one status for two numbers
+not-both : {z : ℤ} (j k : ℕ) → z ≡ pos j → z ≡ pos k → (j ≡ k → ⊥) → ⊥
+not-both j k e d n = n (let f = sym e ∙ d in cc)
+
+-- 13 for nothing: a cell just made is read
+pub worthless-thirteen-for-nothing : Demand1 thirteenForNothing → ⊥
+worthless-thirteen-for-nothing d =
+    let R = d .fifteen-exactly h₁ r₁ [] [] two [] 0 0 (computed .no-calls) (computed .nothing-read) in
+    not-both 13 15 (computed .nothing-13) (R .fifteen .1 (computed .nothing-there)) (λ e. omega arith)
+
+-- 15 for a cell: a cell linked to itself is read
+pub worthless-fifteen-for-cell : Demand1 fifteenForCell → ⊥
+worthless-fifteen-for-cell d =
+    let R = d .fifteen-exactly h₁ r₁ link₀ [] four (Do (Link 0 0 0) ∷ []) 0 0 (computed .link-call) (computed .cell-read) in
+    not-both 15 13 (computed .cell-15) (R .thirteen .1 (computed .cell-there)) (λ e. omega arith)
+
+-- 15 before 11: a variable that holds nothing is read
+pub worthless-fifteen-for-eleven : Demand1 fifteenForEleven → ⊥
+worthless-fifteen-for-eleven d =
+    let R = d .fifteen-exactly h₀ r₀ [] [] two [] 0 0 (computed .no-calls) (computed .empty-read) in
+    not-both 15 11 (computed .empty-15) (R .eleven .1 (computed .empty-there)) (λ e. omega arith)
+
+-- a follow that answers 15
+pub worthless-fifteen-for-twelve : Demand1 fifteenForTwelve → ⊥
+worthless-fifteen-for-twelve d =
+    false≢true (computed .follow-15 (d .refused-11-to-15 h₁ r₁ follow₀ two (Do (Follow 0 0 0) ∷ []) (computed .follow-call) (computed .follow-done)))

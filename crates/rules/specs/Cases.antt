@@ -168,6 +168,6 @@ table =
     ∷ case 4 (New 0 ∷ New 1 ∷ Do (Link 0 0 1) ∷ Do (Link 0 0 1) ∷ Settle ∷ []) (zct (0 ∷ []) ∷ mrt [] [] ∷ [])
     -- P10 new 0, put 0 1 -2147483648, read 0 1: value -2147483648
     ∷ case 4 (New 0 ∷ Do (Put 0 1 (negsuc 2147483647)) ∷ Do (Read 0 1) ∷ []) (valueIs 2 (negsuc 2147483647) ∷ [])
-    -- P11 new 0, read 0 0, follow 0 0 1, same 0 1: statuses 0, 13, 12, 11
-    ∷ case 4 (New 0 ∷ Do (Read 0 0) ∷ Do (Follow 0 0 1) ∷ Do (Same 0 1) ∷ []) (statuses (0 ∷ 13 ∷ 12 ∷ 11 ∷ []) ∷ [])
+    -- P11 new 0, read 0 0, follow 0 0 1, same 0 1: statuses 0, 15, 12, 11
+    ∷ case 4 (New 0 ∷ Do (Read 0 0) ∷ Do (Follow 0 0 1) ∷ Do (Same 0 1) ∷ []) (statuses (0 ∷ 15 ∷ 12 ∷ 11 ∷ []) ∷ [])
     ∷ []

@@ -1,16 +1,19 @@
 -- The letter's three demands, each sentence a named fact about ANY heap. Assumes nothing.
-use Prim.Native.Nat.{ℕ, _+_, _*_, _≤_, _<_}
+use Prim.Native.Nat.{ℕ, zero, suc, _+_, _*_, _≤_, _<_}
 use mathlib.Core.Path.{_≡_}
+use mathlib.Core.Logic.{_↔_}
 use mathlib.Core.Bool.{Bool, true, false, cond}
 use mathlib.Core.Option.{none, some}
-use mathlib.Core.List.{List, [], _∷_}
+use mathlib.Core.List.{List, [], _∷_, _++_}
 use lib.ListN.{length, getD, drop, replicate}
 use lib.IntN.{ℤ, pos, negsuc}
 use Rattle.rules.specs.declared.Head.{Head}
 use Rattle.rules.specs.declared.Sizes.{Sizes}
+use Rattle.rules.specs.declared.Deed.the-variants.{Copy, Clear, Link, Put, Blank, Follow, Read, Same}
 use Rattle.rules.specs.declared.Call.{Call}
 use Rattle.rules.specs.declared.Call.the-variants.{New, Do, Settle}
 use Rattle.rules.specs.Head.{freshHead, zeroHead}
+use Rattle.rules.specs.Table.{has}
 use Rattle.rules.specs.Call.{callsIn, isNought}
 use Rattle.rules.specs.Step.{fresh}
 use Rattle.rules.specs.Rows.{Lent, rowsOf}
@@ -39,6 +42,46 @@ pub record Exactly (P : Type 0) (k : ℕ) (o what : Batched) : Type 0 where
   pub only : o .outcome .status ≡ k → P
   pub left : o .outcome .status ≡ k → o ≡ what
 
+-- what may refuse a call: 11, a variable holds nothing; 12, follow finds no cell; 13, read finds a cell; 14, new finds no free cell; 15, read finds nothing
+abbrev pub reasons : Call → List ℕ
+reasons (New v) = 14 ∷ []
+reasons (Do (Copy v w)) = []
+reasons (Do (Clear v)) = []
+reasons (Do (Link v f w)) = 11 ∷ []
+reasons (Do (Put v f x)) = 11 ∷ []
+reasons (Do (Blank v f)) = 11 ∷ []
+reasons (Do (Follow v f w)) = 11 ∷ 12 ∷ []
+reasons (Do (Read v f)) = 11 ∷ 13 ∷ 15 ∷ []
+reasons (Do (Same v w)) = 11 ∷ []
+reasons Settle = []
+
+-- a call is answered 0, or with one of its reasons and the value nought
+abbrev pub Answers : Call → ℤ → ℤ → Type 0
+Answers c (pos zero) x = Unit {0}
+Answers c (pos (suc k)) x = (has (suc k) (reasons c) ≡ true) × (x ≡ pos 0)
+Answers c (negsuc k) x = ⊥
+
+abbrev pub AllAnswer : List Said → Type 0
+AllAnswer [] = Unit {0}
+AllAnswer (a ∷ as′) = Answers (a .call) (a .status) (a .value) × AllAnswer as′
+
+-- the words of: read v f
+abbrev pub readWords : ℕ → ℕ → List ℤ
+readWords v f = pos 8 ∷ pos v ∷ pos f ∷ pos 0 ∷ []
+
+-- in these rows v holds a cell whose field f is of this kind: 0 nothing, 1 figure, 2 cell
+pub record Finds (r : Lent) (v f kind : ℕ) : Type 0 where
+  pub cell : ℕ
+  pub held : getD (r .variables) v (negsuc 0) ≡ pos cell
+  pub there : getD (r .kinds) (2 * cell + f) 3 ≡ kind
+
+-- the status of read v f, by what these rows hold
+pub record ReadSays (r : Lent) (v f : ℕ) (status : ℤ) : Type 0 where
+  pub nought : (status ≡ pos 0) ↔ Finds r v f 1
+  pub eleven : (status ≡ pos 11) ↔ (getD (r .variables) v (negsuc 0) ≡ negsuc 0)
+  pub thirteen : (status ≡ pos 13) ↔ Finds r v f 2
+  pub fifteen : (status ≡ pos 15) ↔ Finds r v f 0
+
 pub record Demand1 (H : Heaps) : Type 0 where
   -- refusals 1, 2 and 3 change nothing; refusal 4 only clears the work row; checks run in the order 1, 2, 3, 4
   pub refused-1 : (h : Head) (r : Lent) (ws row : List ℤ) → Exactly (Sized h r → ⊥) 1 (H .batch h r ws row) (leavesWith (outcome 1 h 0) r row)
@@ -51,6 +94,14 @@ pub record Demand1 (H : Heaps) : Type 0 where
   pub work-zero : (h : Head) (r : Lent) (ws row : List ℤ) → H .batch h r ws row .outcome .status ≡ 0 → H .batch h r ws row .rows .work ≡ replicate (h .sizes .n) 0
   pub answers-past : (h : Head) (r : Lent) (ws row : List ℤ) (cs : List Call) → callsIn (h .sizes .m) ws ≡ some cs → H .batch h r ws row .outcome .status ≡ 0
       → (length (H .batch h r ws row .answers) ≡ length row) × (drop (2 * length cs) (H .batch h r ws row .answers) ≡ drop (2 * length cs) row)
+  -- a call of an accepted batch is refused with 11 to 15 only, each for the calls that it is listed for, and then has value nought
+  pub refused-11-to-15 : (h : Head) (r : Lent) (ws row : List ℤ) (cs : List Call) → callsIn (h .sizes .m) ws ≡ some cs → H .batch h r ws row .outcome .status ≡ 0
+      → AllAnswer (said cs (H .batch h r ws row .answers))
+  -- a read, wherever it stands in an accepted batch, is answered 15 exactly if its variable holds a cell whose field holds nothing, and 13
+  -- exactly if it holds a cell there: by the rows that the batch of the calls before it leaves
+  pub fifteen-exactly : (h : Head) (r : Lent) (us vs row : List ℤ) (cs : List Call) (v f : ℕ) → callsIn (h .sizes .m) us ≡ some cs
+      → H .batch h r (us ++ (readWords v f ++ vs)) row .outcome .status ≡ 0
+      → ReadSays (H .batch h r us row .rows) v f (getD (H .batch h r (us ++ (readWords v f ++ vs)) row .answers) (2 * length cs) (negsuc 0))
   -- the fresh call gives only 1, with a head of zeros; else a fresh heap
   pub fresh-refuses-only-1 : (s : Sizes) (r : Lent)
       → ((Sized (freshHead s) r → ⊥) → H .fresh s r ≡ leaves (outcome 1 zeroHead 0) r)

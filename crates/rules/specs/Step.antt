@@ -44,7 +44,7 @@ full s k h = ltb (s .l) (length (h .log) + k)
 unfoldable pub noneFree : Sizes → Heap → Bool
 noneFree s h = eqb (h .first) (s .n)
 
--- a settle is also made: before a call that passed 11 to 13 and needs more entries than the log has left; before a new with no free cell.
+-- a settle is also made: before a call that passed its check and needs more entries than the log has left; before a new with no free cell.
 -- (A settle call is one.)
 unfoldable pub wants : Sizes → Call → Heap → Bool
 wants s (New v) h = full s (needs (New v) (h .shape)) h || noneFree s h
@@ -102,11 +102,11 @@ acted s (New v) k h = doNew (noneFree s h) v h
 acted s (Do d) k h = doDeed d h
 acted s Settle k h = done h (pos k)
 
--- a call that passed 11 to 13: settled first where it wants that, then done
+-- a call that passed its check: settled first where it wants that, then done
 unfoldable pub run : Sizes → Call → Heap → Stepped
 run s c h = let h′ = settledFor s c h in acted s c (h′ .freed - h .freed) h′
 
--- the order is 11, 12, 13, then the call itself
+-- the order is 11, then 12, 13 and 15, then the call itself
 unfoldable pub step : Sizes → Call → Heap → Stepped
 step s c h = unless (check c (h .shape)) (refused h) (run s c h)
 

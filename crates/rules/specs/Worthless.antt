@@ -1,8 +1,8 @@
 -- Heaps that cheat, written down: each breaks a named fact of a demand (proofs/Worthless). Assumes nothing.
-use Prim.Native.Nat.{suc}
+use Prim.Native.Nat.{ℕ, suc}
 use mathlib.Core.Bool.{cond}
 use mathlib.Core.Option.{Option, none, some}
-use mathlib.Core.List.{List, [], _∷_}
+use mathlib.Core.List.{List, [], _∷_, map}
 use lib.Dec.{eqb}
 use lib.IntN.{ℤ, pos}
 use Rattle.rules.specs.declared.Head.{Head}
@@ -10,8 +10,8 @@ use Rattle.rules.specs.declared.Call.{Call}
 use Rattle.rules.specs.declared.Sizes.{Sizes}
 use Rattle.rules.specs.Heap.{Heap}
 use Rattle.rules.specs.Settle.{replayed}
-use Rattle.rules.specs.Call.{answer, callsIn}
-use Rattle.rules.specs.Step.{Result, step}
+use Rattle.rules.specs.Call.{Answer, answer, callsIn}
+use Rattle.rules.specs.Step.{Result, step, batch}
 use Rattle.rules.specs.Rows.{Lent, rowsOf, headOf, heapOf}
 use Rattle.rules.specs.Refusals.{Batched, outcome, leavesWith, cleared, answered, freshOf, auditOf, batchOf}
 use Rattle.rules.specs.Run.{Heaps}
@@ -71,3 +71,29 @@ freesOnce = withBatch (λ h r ws row. cond (eqb (h .zct) 0) (batchOf h r ws row)
 -- makes up its count of freed cells
 abbrev pub madeUpCount : Heaps
 madeUpCount = withBatch (changed (λ o. leavesWith (outcome 0 (o .outcome .head) (suc (o .outcome .count))) (o .rows) (o .answers)))
+
+-- each call's status through a function; values, rows and answers past the last call stay
+abbrev pub sayingCalls : (ℕ → ℕ) → Head → Lent → Option (List Call) → List ℤ → Batched → Batched
+sayingCalls f h r none row o = o
+sayingCalls f h r (some cs) row o =
+    leavesWith (o .outcome) (o .rows) (answered (map (λ (a : Answer). answer (f (a .status)) (a .value)) (batch (h .sizes) cs (heapOf h r) .answers)) row)
+
+-- says k for j
+abbrev pub saysFor : ℕ → ℕ → Heaps
+saysFor k j = withBatch (λ h r ws row. changed (sayingCalls (λ s. cond (eqb s j) k s) h r (callsIn (h .sizes .m) ws) row) h r ws row)
+
+-- 13 for a field that holds nothing, as before request A2
+abbrev pub thirteenForNothing : Heaps
+thirteenForNothing = saysFor 13 15
+
+-- 15 for a field that holds a cell
+abbrev pub fifteenForCell : Heaps
+fifteenForCell = saysFor 15 13
+
+-- 15 before 11: for a variable that holds nothing
+abbrev pub fifteenForEleven : Heaps
+fifteenForEleven = saysFor 15 11
+
+-- a follow that answers 15
+abbrev pub fifteenForTwelve : Heaps
+fifteenForTwelve = saysFor 15 12

@@ -21,7 +21,7 @@ use Rattle.rules.specs.Rows.{HeapRows, CallRows, Lent, beside}
 use Rattle.rules.specs.Invariant.{Inv}
 use Rattle.rules.proofs.Calls.{call-fits}
 use Rattle.rules.proofs.Step.{settledIf-inv, step-inv, for-room, for-right}
-use Rattle.rules.proofs.Facts.{check-below, call-refused}
+use Rattle.rules.proofs.Facts.{check-reason, call-refused}
 use Rattle.cells.proofs.Storing.{cell-lengths}
 use Rattle.words.specs.Words.{decodedAs, callAt}
 use Rattle.before.specs.Seen.{Shown, Reaches}
@@ -91,7 +91,7 @@ module _ {s : Sizes} {r : Lent} {at : State} {h : Heap} (S : Standing s r at h) 
       let d = S .whole .limits .l-most in
       (omega arith, a)
 
-  -- a call that is refused with 11 to 13
+  -- a call that its check refuses
   pub refused-as : (c : Call) (k : ℕ) {x : ℤ} → k ≡ check c (h .shape) → (k ≡ 0 → ⊥) → x ≡ pos 0 → Answered s r at (step s c h) (record { state = at; status = k; value = x })
   refused-as c k e n v =
       rw (step-refused s h c k (sym e) n)
@@ -157,16 +157,16 @@ module _ {s : Sizes} {r : Lent} {at : State} (c : Call) {no k : ℕ} (checked : 
         few = omega arith;
       })
 
--- a status is at most 14
-pub status-small : (s : Sizes) (c : Call) (h : Heap) → step s c h .answer .status ≤ 14
+-- a status is at most 15
+pub status-small : (s : Sizes) (c : Call) (h : Heap) → step s c h .answer .status ≤ 15
 status-small s c h = go (step s c h .answer .status) refl
   where
-    go : (k : ℕ) → step s c h .answer .status ≡ k → k ≤ 14
+    go : (k : ℕ) → step s c h .answer .status ≡ k → k ≤ 15
     go zero e = omega arith
     go (suc k) e = by (call-refused s c h k e .1)
       where
-        by : {A B : Type 0} → ((check c (h .shape) ≡ suc k) × A) ⊎ ((suc k ≡ 14) × B) → suc k ≤ 14
-        by (inl p) = let b = check-below c (h .shape) in let e = p .0 in omega arith
+        by : {A B : Type 0} → ((check c (h .shape) ≡ suc k) × A) ⊎ ((suc k ≡ 14) × B) → suc k ≤ 15
+        by (inl p) = (rw (p .0) at (check-reason c (h .shape))) .1
         by (inr p) = let e = p .0 in omega arith
 
 -- ---- the call that was found

@@ -41,7 +41,7 @@ fn settles_first(call: Call, need: usize, sizes: Sizes, at: State) -> bool
     }
 }
 
-// The call at the start of these words is worked: refused with 11 to 13, or settled first where it wants that, and then done.
+// The call at the start of these words is worked: refused by its check, or settled first where it wants that, and then done.
 // (A batch's words were found right before.)
 fn step(
     words: &[i32],

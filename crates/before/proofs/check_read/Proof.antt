@@ -1,6 +1,5 @@
 use mathlib.Core.Path.{ap, _∙_}
-use mathlib.Core.Bool.{Bool}
-use Rattle.rules.specs.Call.{var, isFigure, want}
+use Rattle.rules.specs.Call.{var, noFigure}
 use borrow.Author.Needs.{needs}
 use Rattle.before.proofs.check_read.Statement.{statement}
 use Rattle.before.proofs.check_read.Tie as tie
@@ -8,11 +7,8 @@ use Rattle.before.proofs.check_read.Tie as tie
 field-of-requires : tie.Need-field-of-requires
 field-of-requires c κs = search needs
 
-is-figure-requires : tie.Need-is-figure-requires
-is-figure-requires c κs = search needs
-
-want-requires : tie.Need-want-requires
-want-requires c κs = search needs
+no-figure-requires : tie.Need-no-figure-requires
+no-figure-requires c κs = search needs
 
 eleven-first-requires : tie.Need-eleven-first-requires
 eleven-first-requires c κs = search needs
@@ -21,10 +17,8 @@ returns : tie.Need-returns
 unfolding var
 returns c =
     λ s S.
-    let t = c .before .before .is-figure .ensures ∙ ap isFigure (c .before .before .before .field-of .ensures s S) in
-    rw (← c .before .want .ensures ∙ ap (λ (b : Bool). want b 13) t) (c .eleven-first .ensures _ (S .held))
+    let t = c .before .no-figure .ensures ∙ ap noFigure (c .before .before .field-of .ensures s S) in
+    rw (← t) (c .eleven-first .ensures _ (S .held))
 
 pub check-read-spec : {M : Type 1} → statement M
-check-read-spec =
-    tie.close
-    (tie.spec field-of-requires is-figure-requires want-requires eleven-first-requires returns)
+check-read-spec = tie.close (tie.spec field-of-requires no-figure-requires eleven-first-requires returns)
