@@ -218,7 +218,7 @@ module _ (s : Sizes) (ok : Limits s) (sh : Shape) (t : Tables) (g : Good (s .n) 
       link-good v f (var sh w) (h .1) (k .0) (k .1) (λ a d. var-live w a d)
   deed-good (Put v f x) h e = plain-good v f (Figure x) (h .1) e refl refl (λ b. refl)
   deed-good (Blank v f) h e = plain-good v f Nothing (h .1) e refl refl (λ b. refl)
-  deed-good (Follow v f w) h e = hold-good w (target (at sh v f)) (target-live v f (h .1) (then-11 (isHeld (var sh v)) (want (isCell (at sh v f)) 12) e))
+  deed-good (Follow v f w) h e = hold-good w (target (at sh v f)) (target-live v f (h .1) (then-11 (isHeld (var sh v)) _ e))
   deed-good (Read v f) h e = g
   deed-good (Same v w) f e = g
 

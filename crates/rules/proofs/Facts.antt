@@ -87,12 +87,12 @@ unfolding refuses
 check-reason (New v) sh = tt
 check-reason (Do (Copy v w)) sh = tt
 check-reason (Do (Clear v)) sh = tt
-check-reason (Do (Link v f w)) sh = want-reason _ (isHeld (var sh v) && isHeld (var sh w)) 11 (refl, omega arith)
-check-reason (Do (Put v f x)) sh = want-reason _ (isHeld (var sh v)) 11 (refl, omega arith)
-check-reason (Do (Blank v f)) sh = want-reason _ (isHeld (var sh v)) 11 (refl, omega arith)
-check-reason (Do (Follow v f w)) sh = then-reason _ (isHeld (var sh v)) (want (isCell (at sh v f)) 12) (refl, omega arith) (want-reason _ (isCell (at sh v f)) 12 (refl, omega arith))
-check-reason (Do (Read v f)) sh = then-reason _ (isHeld (var sh v)) (noFigure (at sh v f)) (refl, omega arith) (figure-reason (at sh v f))
-check-reason (Do (Same v w)) sh = want-reason _ (isHeld (var sh v) && isHeld (var sh w)) 11 (refl, omega arith)
+check-reason (Do (Link v f w)) sh = want-reason _ (isHeld (var sh v) && isHeld (var sh w)) _ (refl, omega arith)
+check-reason (Do (Put v f x)) sh = want-reason _ (isHeld (var sh v)) _ (refl, omega arith)
+check-reason (Do (Blank v f)) sh = want-reason _ (isHeld (var sh v)) _ (refl, omega arith)
+check-reason (Do (Follow v f w)) sh = then-reason _ (isHeld (var sh v)) _ (refl, omega arith) (want-reason _ (isCell (at sh v f)) _ (refl, omega arith))
+check-reason (Do (Read v f)) sh = then-reason _ (isHeld (var sh v)) _ (refl, omega arith) (figure-reason (at sh v f))
+check-reason (Do (Same v w)) sh = want-reason _ (isHeld (var sh v) && isHeld (var sh w)) _ (refl, omega arith)
 check-reason Settle sh = tt
 
 module _ (s : Sizes) where

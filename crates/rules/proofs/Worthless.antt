@@ -186,7 +186,7 @@ worthless-count d =
 not-both : {z : ℤ} (j k : ℕ) → z ≡ pos j → z ≡ pos k → (j ≡ k → ⊥) → ⊥
 not-both j k e d n = n (let f = sym e ∙ d in cc)
 
--- 13 for nothing: a cell just made is read
+-- 13 for nothing: a cell with nothing in it is read
 pub worthless-thirteen-for-nothing : Demand1 thirteenForNothing → ⊥
 worthless-thirteen-for-nothing d =
     let R = d .fifteen-exactly h₁ r₁ [] [] two [] 0 0 (computed .no-calls) (computed .nothing-read) in
@@ -202,7 +202,10 @@ worthless-fifteen-for-cell d =
 pub worthless-fifteen-for-eleven : Demand1 fifteenForEleven → ⊥
 worthless-fifteen-for-eleven d =
     let R = d .fifteen-exactly h₀ r₀ [] [] two [] 0 0 (computed .no-calls) (computed .empty-read) in
-    not-both 15 11 (computed .empty-15) (R .eleven .1 (computed .empty-there)) (λ e. omega arith)
+    let held = R .fifteen .0 (computed .empty-15) .held in
+    let none-held = computed .empty-there in
+    let z : _≡_ {A = ℕ} 0 1 = cc in
+    omega arith
 
 -- a follow that answers 15
 pub worthless-fifteen-for-twelve : Demand1 fifteenForTwelve → ⊥
