@@ -5,6 +5,7 @@ ghost use mathlib.Core.List.{List, _++_};
 ghost use mathlib.Core.Option.{Option, none};
 ghost use Prim.Native.Nat.{ℕ, _<_, _≤_};
 ghost use lib.ListN.{length, getD};
+ghost use Rattle.rules.specs.declared.Deed.the-variants.{Follow, Read};
 ghost use Rattle.rules.specs.declared.Call.the-variants.{Do};
 ghost use Rattle.rules.specs.Heap.{Shape};
 ghost use Rattle.rules.specs.Call.{drops, var, at, isHeld, isCell, noFigure, want, refuses, check, makes, logs};
@@ -94,7 +95,7 @@ fn check_follow(
     f: usize,
 ) -> usize
     requires { ⌜ Reach n (now kinds) (now values) (now variables) v f ⌝ }
-    ensures { λ r. ⌜ ((s : Shape) → Shown n (now (kinds .entry)) (now (values .entry)) (now (variables .entry)) s → r ≡ cond (isHeld (var s v)) (want (isCell (at s v f)) 12) 11) ⌝ }
+    ensures { λ r. ⌜ ((w : ℕ) (s : Shape) → Shown n (now (kinds .entry)) (now (values .entry)) (now (variables .entry)) s → r ≡ refuses (Follow v f w) s) ⌝ }
 {
     let old = field_of(kinds, values, variables, n, v, f);
     eleven_first(variables, v, n, want(is_cell(old), 12))
@@ -122,7 +123,7 @@ fn check_read(
     f: usize,
 ) -> usize
     requires { ⌜ Reach n (now kinds) (now values) (now variables) v f ⌝ }
-    ensures { λ r. ⌜ ((s : Shape) → Shown n (now (kinds .entry)) (now (values .entry)) (now (variables .entry)) s → r ≡ cond (isHeld (var s v)) (noFigure (at s v f)) 11) ⌝ }
+    ensures { λ r. ⌜ ((s : Shape) → Shown n (now (kinds .entry)) (now (values .entry)) (now (variables .entry)) s → r ≡ refuses (Read v f) s) ⌝ }
 {
     let old = field_of(kinds, values, variables, n, v, f);
     eleven_first(variables, v, n, no_figure(old))

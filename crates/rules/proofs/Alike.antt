@@ -23,7 +23,6 @@ use Rattle.rules.specs.Call.{Answer, isBelow, isNought, isSigned32, give
 use Rattle.rules.specs.Rows.{rowsOf, headOf}
 use Rattle.rules.specs.Refusals.{answerWords, answered}
 use Rattle.rules.specs.Run.{AlikeWord, AlikeCalls, AlikeRows, AlikeAnswers}
-use Rattle.rules.proofs.Calls.{in-of, no-first, first-call}
 use Rattle.rules.proofs.Erase.{eraseF, eraseC, erase, isRead, SameCalls, SameAnswers}
 
 -- ---- rows
@@ -196,6 +195,17 @@ unfolding callOf
 read-op m (pos k) a b x c e r = ap pos (by-reads m k a b x c e r)
 read-op m (negsuc k) a b x c e r = none-reads c e r
 
+-- the first call, and those after it
+pub no-first : (o : Option Call) (r : Option (List Call)) → andThen o r ≡ some [] → ⊥
+no-first none r e = let z : _≡_ {A = ℕ} 0 1 = cc in omega arith
+no-first (some c) none e = let z : _≡_ {A = ℕ} 0 1 = cc in omega arith
+no-first (some c) (some cs) e = let z : _≡_ {A = ℕ} 0 1 = cc in omega arith
+
+pub first-call : (o : Option Call) (r : Option (List Call)) (c : Call) (cs : List Call) → andThen o r ≡ some (c ∷ cs) → (o ≡ some c) × (r ≡ some cs)
+first-call none r c cs e = let z : _≡_ {A = ℕ} 0 1 = cc in absurd (omega arith)
+first-call (some d) none c cs e = let z : _≡_ {A = ℕ} 0 1 = cc in absurd (omega arith)
+first-call (some d) (some ds) c cs e = ((cc), (cc))
+
 answers-alike : (m : ℕ) (ws rest : List ℤ) (cs : List Call) (as′ bs : List Answer) → callsOf m ws ≡ some cs → SameAnswers cs as′ bs → AlikeAnswers ws (answerWords as′ ++ rest) (answerWords bs ++ rest)
 unfolding callsOf
 answers-alike m [] rest [] [] [] e s = refl
@@ -219,6 +229,14 @@ answers-length [] (a ∷ as′) bs s = absurd s
 answers-length (c ∷ cs) [] bs s = absurd s
 answers-length (c ∷ cs) (a ∷ as′) [] s = absurd s
 answers-length (c ∷ cs) (a ∷ as′) (b ∷ bs) s = ap suc (answers-length cs as′ bs (s .2))
+
+in-of : (m : ℕ) (ws : List ℤ) (cs : List Call) → callsIn m ws ≡ some cs → callsOf m ws ≡ some cs
+unfolding callsIn
+in-of m ws cs e = go (leb (length ws) 1024) e
+  where
+    go : (q : Bool) → cond q (callsOf m ws) none ≡ some cs → callsOf m ws ≡ some cs
+    go true e = e
+    go false e = let z : _≡_ {A = ℕ} 0 1 = cc in absurd (omega arith)
 
 pub answered-alike : (m : ℕ) (ws row : List ℤ) (cs : List Call) (as′ bs : List Answer) → callsIn m ws ≡ some cs → SameAnswers cs as′ bs → AlikeAnswers ws (answered as′ row) (answered bs row)
 unfolding answered

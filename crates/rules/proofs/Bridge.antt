@@ -25,7 +25,8 @@ use Rattle.rules.specs.Whole.{Kept}
 use Rattle.rules.specs.Sound.{Live, Mark, Word, Words, Variables, TableRow, TablesSound, NotIn, ZctHeld, kind, word, mark, pointers, heldAmong, times, FreeList, Sound}
 use Rattle.rules.specs.Invariant.{refs, live, view, countOf, okOf, Counted, Good, Frees, Fitting, Inv, Done, Ended}
 use Rattle.rules.proofs.Reclaim.{pick-some, pick-none}
-use Rattle.rules.proofs.Positions.{getD-any, has-at, at-has, not-has, all-at, at-all, up-at, at-up, count-at, at-count, not-counted, pad-at, pad-zero, refs-pointers, holds-held, holds-at, at-holds, kind-at, kind-nothing, inside, live-at, at-live, dead-at, chain-path, path-chain, off-path, on-chain, word-of, of-word, half, no-refs, some-refs}
+use Rattle.rules.proofs.Cells.{free-dead}
+use Rattle.rules.proofs.Positions.{has-at, at-has, not-has, all-at, at-all, up-at, at-up, count-at, at-count, not-counted, pad-at, pad-zero, refs-pointers, holds-held, holds-at, at-holds, kind-at, kind-nothing, inside, live-at, at-live, dead-at, chain-path, path-chain, off-path, on-chain, word-of, of-word, half, no-refs, some-refs}
 
 -- what the rows of a heap do not say: how long its lists are, and that its log is empty
 pub record Plain (s : Sizes) (h : Heap) : Type 0 where
@@ -130,14 +131,10 @@ module _ (s : Sizes) (ok : Limits s) (h : Heap) where
         go true e = refl
         go false e = let z = good .counted b .gone e .1 in absurd (omega arith)
 
-    free-dead : (a b : ℕ) → a < s .n → field fs a 0 ≡ Free b → live fs a ≡ false
-    unfolding live field place
-    free-dead a b h e = let l = good .len in rw (getD-any fs (2 * a + 0) (Free 0) Nothing (omega arith), e)
-
     mark-at : (a f b : ℕ) → a < s .n → f < 2 → field fs a f ≡ Free b → Mark (s .n) (map kindOf fs) a f (pos b)
     unfolding field place
     mark-at a zero b h k e =
-        let o : times a (inv .frees .list) ≡ 1 = rw (free-dead a b h e) at (inv .frees .once a h) in
+        let o : times a (inv .frees .list) ≡ 1 = rw (free-dead fs a b e) at (inv .frees .once a h) in
         let c = on-chain (s .n) fs (good .len) first (inv .frees .list) a b (inv .frees .chain) (omega arith) e in
         record { first = refl; next = c .0; alone = kind-at fs (2 * a + 1) ∙ ap kindOf (c .1) }
     mark-at a (suc zero) b h k e = absurd (inv .plain-1 a b e)

@@ -20,7 +20,7 @@ use Rattle.rules.specs.declared.Call.the-variants.{New, Do, Settle}
 use Rattle.rules.specs.declared.Sizes.{Sizes}
 use Rattle.rules.specs.Heap.{Tables, Transaction, Shape, field, store}
 use Rattle.rules.specs.Rules.{replay}
-use Rattle.rules.specs.Call.{drops, var, at, isHeld, isCell, want, makes, logs, write, hold, toCell, target, act, isBelow, isNought, isSigned32, given, number, callOf, andThen, callsOf, callsIn, InRange, Fits, AllFit, refuses}
+use Rattle.rules.specs.Call.{drops, var, at, isHeld, want, makes, logs, write, hold, toCell, target, act, isBelow, isNought, isSigned32, given, number, callOf, andThen, callsOf, callsIn, InRange, Fits, AllFit, refuses}
 use Rattle.rules.specs.Settle.{holds}
 use Rattle.rules.specs.Head.{Limits}
 use Rattle.rules.specs.Invariant.{hit, refs, used, live, Counted, Good, Fitting, Small}
@@ -336,41 +336,6 @@ pub calls-in-fit : (m : ℕ) (ws : List ℤ) (cs : List Call) → callsIn m ws �
 unfolding callsIn
 calls-in-fit m ws = only-cond (AllFit m) (leb (length ws) 1024) (callsOf m ws) none (calls-fit m ws) (only-none (AllFit m))
 
--- ---- one call and those after it
-
-pub no-first : (o : Option Call) (r : Option (List Call)) → andThen o r ≡ some [] → ⊥
-no-first none r e = let z : _≡_ {A = ℕ} 0 1 = cc in omega arith
-no-first (some c) none e = let z : _≡_ {A = ℕ} 0 1 = cc in omega arith
-no-first (some c) (some cs) e = let z : _≡_ {A = ℕ} 0 1 = cc in omega arith
-
-pub first-call : (o : Option Call) (r : Option (List Call)) (c : Call) (cs : List Call) → andThen o r ≡ some (c ∷ cs) → (o ≡ some c) × (r ≡ some cs)
-first-call none r c cs e = let z : _≡_ {A = ℕ} 0 1 = cc in absurd (omega arith)
-first-call (some d) none c cs e = let z : _≡_ {A = ℕ} 0 1 = cc in absurd (omega arith)
-first-call (some d) (some ds) c cs e = ((cc), (cc))
-
-pub in-of : (m : ℕ) (ws : List ℤ) (cs : List Call) → callsIn m ws ≡ some cs → callsOf m ws ≡ some cs
-unfolding callsIn
-in-of m ws cs e = go (leb (length ws) 1024) e
-  where
-    go : (q : Bool) → cond q (callsOf m ws) none ≡ some cs → callsOf m ws ≡ some cs
-    go true e = e
-    go false e = let z : _≡_ {A = ℕ} 0 1 = cc in absurd (omega arith)
-
-same-list : {o : Option Call} {x y : Call} {xs ys : List Call} → o ≡ some x → o ≡ some y → xs ≡ ys → x ∷ xs ≡ y ∷ ys
-same-list e d f = cc
-
--- words of calls and what follows them: their calls, and the calls that follow
-pub calls-after : (m : ℕ) (us ws : List ℤ) (cs es : List Call) → callsOf m us ≡ some cs → callsOf m (us ++ ws) ≡ some es → (ds : List Call) × ((callsOf m ws ≡ some ds) × (es ≡ cs ++ ds))
-unfolding callsOf
-calls-after m [] ws [] es e d = (es, (d, refl))
-calls-after m [] ws (c ∷ cs) es e d = let z : _≡_ {A = ℕ} 0 1 = cc in absurd (omega arith)
-calls-after m (op ∷ []) ws cs es e d = let z : _≡_ {A = ℕ} 0 1 = cc in absurd (omega arith)
-calls-after m (op ∷ a ∷ []) ws cs es e d = let z : _≡_ {A = ℕ} 0 1 = cc in absurd (omega arith)
-calls-after m (op ∷ a ∷ b ∷ []) ws cs es e d = let z : _≡_ {A = ℕ} 0 1 = cc in absurd (omega arith)
-calls-after m (op ∷ a ∷ b ∷ x ∷ us) ws [] es e d = absurd (no-first (callOf m op a b x) (callsOf m us) e)
-calls-after m (op ∷ a ∷ b ∷ x ∷ us) ws (c ∷ cs) [] e d = absurd (no-first (callOf m op a b x) (callsOf m (us ++ ws)) d)
-calls-after m (op ∷ a ∷ b ∷ x ∷ us) ws (c ∷ cs) (y ∷ es) e d =
-    let p = first-call (callOf m op a b x) (callsOf m us) c cs e in
-    let q = first-call (callOf m op a b x) (callsOf m (us ++ ws)) y es d in
-    let r = calls-after m us ws cs es (p .1) (q .1) in
-    (r .0, (r .1 .0, same-list (q .0) (p .0) (r .1 .1)))
+pub fit-parts : (m : ℕ) (cs ds : List Call) → AllFit m (cs ++ ds) → AllFit m cs × AllFit m ds
+fit-parts m [] ds f = (tt, f)
+fit-parts m (c ∷ cs) ds f = let p = fit-parts m cs ds (f .1) in ((f .0, p .0), p .1)

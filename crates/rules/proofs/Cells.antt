@@ -29,6 +29,16 @@ live-in fs a l = go (ltb (place a 0) (length fs)) refl
     go true e = ltb-true _ _ e
     go false e = absurd (false≢true (ap used (sym (List·getD-eq-default fs (Free 0) (ltb-false _ _ e))) ∙ l))
 
+mark-dead : (fs : List Field) (i b : ℕ) → getD fs i Nothing ≡ Free b → used (getD fs i (Free 0)) ≡ false
+mark-dead [] i b e = refl
+mark-dead (x ∷ fs) zero b e = ap used e
+mark-dead (x ∷ fs) (suc i) b e = mark-dead fs i b e
+
+-- a cell with the free mark is not in use
+pub free-dead : (fs : List Field) (a b : ℕ) → field fs a 0 ≡ Free b → live fs a ≡ false
+unfolding live field
+free-dead fs a b e = mark-dead fs (place a 0) b e
+
 pub places : (a b f g : ℕ) → place a f ≡ place b g → f < 2 → g < 2 → (a ≡ b) × (f ≡ g)
 unfolding place
 places a b f g e h k = omega arith

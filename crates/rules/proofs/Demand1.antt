@@ -1,5 +1,5 @@
 -- Demand 1 of our heap: it refuses for the listed reasons, in their order, and for no others. Assumes nothing.
-use Prim.Native.Nat.{ℕ, suc, _*_, _<_, _≤_}
+use Prim.Native.Nat.{ℕ, suc, _*_, _≤_}
 use mathlib.Core.Path.{_≡_, refl, sym, ap, _∙_}
 use mathlib.Core.Bool.{Bool, true, false, cond}
 use mathlib.Core.Option.{Option, none, some}
@@ -23,10 +23,10 @@ use Rattle.rules.specs.Rows.{Lent, rowsOf, heapOf}
 use Rattle.rules.specs.Sound.{Sound, Sized}
 use Rattle.rules.specs.Refusals.{Batched, outcome, leaves, leavesWith, cleared, isSized, isSound, answerWords, answered, accepted, checkSound, checkAnswers, checkCalls, freshOf, auditOf, batchOf}
 use Rattle.rules.specs.Run.{ours, said}
-use Rattle.rules.specs.Demands.{Callable, TooShort, Exactly, AllAnswer, readWords, ReadSays, Demand1}
-use Rattle.rules.proofs.Calls.{in-of, calls-in-fit, calls-after}
+use Rattle.rules.specs.Demands.{Callable, TooShort, Exactly, AllListed, ReadSays, Demand1}
+use Rattle.rules.proofs.Calls.{calls-in-fit, fit-parts}
 use Rattle.rules.proofs.Step.{counted-from-0}
-use Rattle.rules.proofs.Inside.{heapAfter, calls-end, status-at, all-answer, after-inv, read-after, read-first}
+use Rattle.rules.proofs.Inside.{heapAfter, calls-end, status-at, all-listed, after-inv, read-after}
 use Rattle.rules.proofs.Entry.{entry-ended}
 use Rattle.rules.proofs.Tests.{sized-true, sized-false, true-sized, false-sized, sound-true, sound-false, true-sound, false-sound}
 
@@ -190,46 +190,33 @@ work-0 h r cs row = refl
 
 -- ---- calls refused
 
-accepted-answers : (h : Head) (r : Lent) (cs : List Call) (row : List ℤ) → AllAnswer (said cs (accepted h r cs row .answers))
+accepted-listed : (h : Head) (r : Lent) (cs : List Call) (row : List ℤ) → AllListed (said cs (accepted h r cs row .answers))
 unfolding accepted answered batch
-accepted-answers h r cs row = let k = unfreed (heapOf h r) in all-answer (h .sizes) cs k (drop (2 * length (calls (h .sizes) cs k .answers)) row)
+accepted-listed h r cs row = let k = unfreed (heapOf h r) in all-listed (h .sizes) cs k (drop (2 * length (calls (h .sizes) cs k .answers)) row)
 
--- a read after some calls, where the whole batch is accepted
-module _ {h : Head} {r : Lent} (Z : Sized h r) (S : Sound h r) (cs ds : List Call) (F : AllFit (h .sizes .m) cs) (v f : ℕ) (small : f < 2) (row : List ℤ) where
-  accepted-read : ReadSays (accepted h r cs row .rows) v f (getD (accepted h r (cs ++ Do (Read v f) ∷ ds) row .answers) (2 * length cs) (negsuc 0))
+-- a read after the calls cs
+module _ (h : Head) (r : Lent) (row : List ℤ) (cs ds : List Call) (v f : ℕ) where
+  abbrev es : List Call
+  es = cs ++ Do (Read v f) ∷ ds
+
+  accepted-read : Sized h r → Sound h r → AllFit (h .sizes .m) es → ReadSays (accepted h r cs row .rows) v f (getD (accepted h r es row .answers) (2 * length cs) (negsuc 0))
   unfolding accepted answered batch
-  accepted-read =
+  accepted-read Z S F =
       let s = h .sizes in
       let ok = Z .within .limits in
       let k = unfreed (heapOf h r) in
-      let g = after-inv s ok cs k (counted-from-0 s ok (heapOf h r) (entry-ended Z S .inv)) F in
-      rw (calls-end s cs k, status-at s cs ds (Do (Read v f)) k (drop (2 * length (calls s (cs ++ Do (Read v f) ∷ ds) k .answers)) row))
-      (read-after s ok (heapAfter s cs k) g v f small)
+      let p = fit-parts (s .m) cs (Do (Read v f) ∷ ds) F in
+      let g = after-inv s ok cs k (counted-from-0 s ok (heapOf h r) (entry-ended Z S .inv)) (p .0) in
+      rw (calls-end s cs k, status-at s cs ds (Do (Read v f)) k (drop (2 * length (calls s es k .answers)) row))
+      (read-after s ok (heapAfter s cs k) g v f (p .1 .0 .1))
 
-module _ (h : Head) (r : Lent) (us vs row : List ℤ) (cs : List Call) (v f : ℕ) (d : callsIn (h .sizes .m) us ≡ some cs) where
-  abbrev ws : List ℤ
-  ws = us ++ (readWords v f ++ vs)
-
-  -- the calls of the whole batch: these, the read, and others
-  record Among (es : List Call) : Type 0 where
-    rest : List Call
-    are : es ≡ cs ++ Do (Read v f) ∷ rest
-    small : f < 2
-
-  among : (es : List Call) → callsIn (h .sizes .m) ws ≡ some es → Among es
-  among es e =
-      let m = h .sizes .m in
-      let a = calls-after m us (readWords v f ++ vs) cs es (in-of m us cs d) (in-of m ws es e) in
-      let b = read-first m v f vs (a .0) (a .1 .0) in
-      record { rest = b .0; are = a .1 .1 ∙ ap (λ (x : List Call). cs ++ x) (b .1 .0); small = b .1 .1 }
-
-  reads : batchOf h r ws row .outcome .status ≡ 0 → ReadSays (batchOf h r us row .rows) v f (getD (batchOf h r ws row .answers) (2 * length cs) (negsuc 0))
-  reads e =
-      let t = taken h r ws row e in
-      let A = among (t .callable .calls) (t .callable .decoded) in
-      let room : 2 * length cs ≤ length row = let l = ap length (A .are) ∙ length-append cs (Do (Read v f) ∷ A .rest) in let k = t .callable .room in omega arith in
-      let u = accepted-as h r us row cs (t .sized) d room (t .sound) in
-      rw (u, t .left, A .are) (accepted-read (t .sized) (t .sound) cs (A .rest) (calls-in-fit (h .sizes .m) us cs d) v f (A .small) row)
+  reads : (us ws : List ℤ) → callsIn (h .sizes .m) us ≡ some cs → callsIn (h .sizes .m) ws ≡ some es → batchOf h r ws row .outcome .status ≡ 0
+      → ReadSays (batchOf h r us row .rows) v f (getD (batchOf h r ws row .answers) (2 * length cs) (negsuc 0))
+  reads us ws d e a =
+      let t = taken h r ws row a in
+      let q = same-calls h r ws row (t .callable .calls) es (t .callable .decoded) e in
+      let room : 2 * length cs ≤ length row = let l = ap length q ∙ length-append cs (Do (Read v f) ∷ ds) in let k = t .callable .room in omega arith in
+      rw (accepted-as h r us row cs (t .sized) d room (t .sound), t .left, q) (accepted-read (t .sized) (t .sound) (calls-in-fit (h .sizes .m) ws es e))
 
 -- ---- fresh and audit
 
@@ -285,8 +272,8 @@ demand-1 =
       refused-11-to-15 = λ h r ws row cs e s.
           let t = taken h r ws row s in
           let q = same-calls h r ws row (t .callable .calls) cs (t .callable .decoded) e in
-          rw (t .left, q) (accepted-answers h r cs row);
-      fifteen-exactly = λ h r us vs row cs v f d s. reads h r us vs row cs v f d s;
+          rw (t .left, q) (accepted-listed h r cs row);
+      fifteen-exactly = λ h r us ws row cs ds v f. reads h r row cs ds v f us ws;
       fresh-refuses-only-1 = λ s r. (fresh-refused s r, fresh-accepted s r);
       audit-refuses-only-1-and-4 = λ h r. (audit-1 h r, audit-4 h r, audit-0 h r);
     }

@@ -18,13 +18,13 @@ use Rattle.rules.specs.declared.Sizes.{Sizes}
 use Rattle.rules.specs.Field.{kindOf, variableOf}
 use Rattle.rules.specs.Heap.{Heap, place, field}
 use Rattle.rules.specs.Settle.{settled}
-use Rattle.rules.specs.Call.{Answer, AllFit, callOf, callsOf, callsIn, hold}
+use Rattle.rules.specs.Call.{Answer, AllFit, callOf, callsOf, callsIn, wordsOf, hold}
 use Rattle.rules.specs.Step.{Stepped, full, noneFree, wants, settledIf, takeCell, doNew, acted, run, step, calls, unfreed, batch}
 use Rattle.rules.specs.Rows.{Lent, rowsOf, headOf, heapOf}
 use Rattle.rules.specs.Sound.{Sound, Sized, heldAmong, times}
 use Rattle.rules.specs.Refusals.{Batched, answerWords, answered, accepted, batchOf, auditOf, isSound}
 use Rattle.rules.specs.Run.{ours, said}
-use Rattle.rules.specs.Demands.{handedOut, freeCells, newWords, Demand2}
+use Rattle.rules.specs.Demands.{handedOut, freeCells, Demand2}
 use Rattle.rules.specs.Invariant.{Inv}
 use Rattle.rules.proofs.Tests.{sound-true, sound-false}
 use Rattle.rules.proofs.Cells.{lives}
@@ -106,13 +106,13 @@ module _ {h : Head} {r : Lent} (Z : Sized h r) (S : Sound h r) (cs : List Call) 
 
 -- ---- a batch of one new
 
-new-calls : (m v : ℕ) → v < m → callsIn m (newWords v) ≡ some (New v ∷ [])
+new-calls : (m v : ℕ) → v < m → callsIn m (wordsOf (New v ∷ [])) ≡ some (New v ∷ [])
 unfolding callsIn callsOf callOf
 new-calls m v k = rw (lt-ltb v m k)
 
 module _ {h : Head} {r : Lent} (Z : Sized h r) (S : Sound h r) (v : ℕ) (k : v < h .sizes .m) (row : List ℤ) (room : 2 ≤ length row) where
-  new-left : batchOf h r (newWords v) row ≡ accepted h r (New v ∷ []) row
-  new-left = accepted-as h r (newWords v) row (New v ∷ []) Z (new-calls (h .sizes .m) v k) room S
+  new-left : batchOf h r (wordsOf (New v ∷ [])) row ≡ accepted h r (New v ∷ []) row
+  new-left = accepted-as h r (wordsOf (New v ∷ [])) row (New v ∷ []) Z (new-calls (h .sizes .m) v k) room S
 
   new-status : getD (accepted h r (New v ∷ []) row .answers) 0 (negsuc 0) ≡ pos (step (h .sizes) (New v) (heapOf h r) .answer .status)
   unfolding accepted answered batch calls heapOf
@@ -122,7 +122,7 @@ module _ {h : Head} {r : Lent} (Z : Sized h r) (S : Sound h r) (v : ℕ) (k : v 
   unfolding heapOf
   first-is = refl
 
-  fourteen : (getD (batchOf h r (newWords v) row .answers) 0 (negsuc 0) ≡ pos 14 → h .free ≡ h .sizes .n) × (h .free ≡ h .sizes .n → getD (batchOf h r (newWords v) row .answers) 0 (negsuc 0) ≡ pos 14)
+  fourteen : (getD (batchOf h r (wordsOf (New v ∷ [])) row .answers) 0 (negsuc 0) ≡ pos 14 → h .free ≡ h .sizes .n) × (h .free ≡ h .sizes .n → getD (batchOf h r (wordsOf (New v ∷ [])) row .answers) 0 (negsuc 0) ≡ pos 14)
   unfolding noneFree
   fourteen =
       let ok = Z .within .limits in
@@ -147,7 +147,7 @@ module _ {h : Head} {r : Lent} (Z : Sized h r) (S : Sound h r) (v : ℕ) (k : v 
     new-heap = ap (λ (o : Stepped). settled (h .sizes) (o .heap)) new-taken
 
     fit : AllFit (h .sizes .m) (New v ∷ [])
-    fit = calls-in-fit (h .sizes .m) (newWords v) (New v ∷ []) (new-calls (h .sizes .m) v k)
+    fit = calls-in-fit (h .sizes .m) (wordsOf (New v ∷ [])) (New v ∷ []) (new-calls (h .sizes .m) v k)
 
     new-holds : getD (batch (h .sizes) (New v ∷ []) (heapOf h r) .heap .shape .variables) v none ≡ some (h .free)
     unfolding takeCell hold heapOf
@@ -159,7 +159,7 @@ module _ {h : Head} {r : Lent} (Z : Sized h r) (S : Sound h r) (v : ℕ) (k : v 
         let long : v < length (heapOf h r .shape .variables) = let g = (entry-ended Z S) .inv .variables-long in omega arith in
         rw (new-heap, e) (getD-set-same (heapOf h r .shape .variables) v (some (h .free)) none long)
 
-    handed : (getD (batchOf h r (newWords v) row .answers) 0 (negsuc 0) ≡ pos 0) × (getD (batchOf h r (newWords v) row .rows .variables) v (negsuc 0) ≡ pos (h .free))
+    handed : (getD (batchOf h r (wordsOf (New v ∷ [])) row .answers) 0 (negsuc 0) ≡ pos 0) × (getD (batchOf h r (wordsOf (New v ∷ [])) row .rows .variables) v (negsuc 0) ≡ pos (h .free))
     handed = (
       ap (λ (o : Batched). getD (o .answers) 0 (negsuc 0)) new-left ∙ new-status ∙ ap (λ (o : Stepped). pos (o .answer .status)) new-taken,
       ap (λ (o : Batched). getD (o .rows .variables) v (negsuc 0)) new-left ∙ new-row ∙ ap variableOf new-holds,

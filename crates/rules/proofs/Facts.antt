@@ -23,7 +23,7 @@ use Rattle.rules.specs.Rules.{replay}
 use Rattle.rules.specs.Heap.{Shape, Heap, place, field}
 use Rattle.rules.specs.Settle.{holds, pick, reclaim, replayed, settledBy, settled}
 use Rattle.rules.specs.Call.{Answer, InRange, Fits, AllFit, unless, var, at, isHeld, isCell, noFigure, want, refuses, check, hold}
-use Rattle.rules.specs.Demands.{reasons, Answers, isNew}
+use Rattle.rules.specs.Demands.{reasons, Listed, isNew}
 use Rattle.rules.specs.Step.{Stepped, refused, settledIf, full, noneFree, takeCell, doNew, run, step, calls, batch, wants, counted, settledFor, doDeed, acted, unfreed}
 use Rattle.rules.specs.Head.{Limits}
 use Rattle.rules.specs.Invariant.{refs, live, Inv, Ended, count}
@@ -146,20 +146,20 @@ module _ (s : Sizes) where
       go (suc j) d e = (refl, inl (d ∙ e, refl))
 
 -- a call is answered 0, or with one of its reasons and the value nought
-pub step-answers : (s : Sizes) (c : Call) (h : Heap) → Answers c (pos (step s c h .answer .status)) (step s c h .answer .value)
+pub step-listed : (s : Sizes) (c : Call) (h : Heap) → Listed c (pos (step s c h .answer .status)) (step s c h .answer .value)
 unfolding step run acted doNew doDeed
-step-answers s c h = go (check c (h .shape)) refl
+step-listed s c h = go (check c (h .shape)) refl
   where
-    new-answers : (q : Bool) (v : ℕ) (k : Heap) → Answers (New v) (pos (doNew q v k .answer .status)) (doNew q v k .answer .value)
-    new-answers true v k = (refl, refl)
-    new-answers false v k = tt
+    new-listed : (q : Bool) (v : ℕ) (k : Heap) → Listed (New v) (pos (doNew q v k .answer .status)) (doNew q v k .answer .value)
+    new-listed true v k = (refl, refl)
+    new-listed false v k = tt
 
-    ran : (c : Call) → Answers c (pos (run s c h .answer .status)) (run s c h .answer .value)
-    ran (New v) = new-answers (noneFree s (settledFor s (New v) h)) v (settledFor s (New v) h)
+    ran : (c : Call) → Listed c (pos (run s c h .answer .status)) (run s c h .answer .value)
+    ran (New v) = new-listed (noneFree s (settledFor s (New v) h)) v (settledFor s (New v) h)
     ran (Do d) = tt
     ran Settle = tt
 
-    go : (k : ℕ) → check c (h .shape) ≡ k → Answers c (pos (unless k (refused h) (run s c h) .answer .status)) (unless k (refused h) (run s c h) .answer .value)
+    go : (k : ℕ) → check c (h .shape) ≡ k → Listed c (pos (unless k (refused h) (run s c h) .answer .status)) (unless k (refused h) (run s c h) .answer .value)
     go zero d = ran c
     go (suc k) d = ((rw d at (check-reason c (h .shape))) .0, refl)
 

@@ -2,7 +2,7 @@
 use Prim.Native.Nat.{ℕ, zero, suc, _+_, _*_, _<_}
 use mathlib.Core.Path.{_≡_, refl, sym, ap, _∙_}
 use mathlib.Core.Logic.{_↔_}
-use mathlib.Core.Bool.{Bool, true, false, cond, _&&_, true≢false}
+use mathlib.Core.Bool.{Bool, true, false, cond, true≢false}
 use mathlib.Core.Option.{Option, none, some}
 use mathlib.Core.List.{List, [], _∷_, _++_}
 use native.Mathlib.Omega.{arith}
@@ -21,20 +21,21 @@ use Rattle.rules.specs.Field.{kindOf, variableOf}
 use Rattle.rules.specs.Heap.{Heap, place, field}
 use Rattle.rules.specs.Rules.{replay}
 use Rattle.rules.specs.Settle.{holds, replayed, settledBy, settled}
-use Rattle.rules.specs.Call.{AllFit, unless, var, at, isHeld, noFigure, refuses, check, callOf, callsOf, given, isBelow, isNought}
+use Rattle.rules.specs.Call.{AllFit, unless, var, at, isHeld, noFigure, refuses, check}
 use Rattle.rules.specs.Step.{refused, doDeed, acted, run, step, calls}
 use Rattle.rules.specs.Rows.{rowsOf}
 use Rattle.rules.specs.Refusals.{answerWords}
 use Rattle.rules.specs.Run.{said}
-use Rattle.rules.specs.Demands.{AllAnswer, readWords, Finds, ReadSays}
-use Rattle.rules.specs.Invariant.{used, live, Inv}
-use Rattle.rules.proofs.Lists.{getD-inside}
-use Rattle.rules.proofs.Cells.{place-in-1}
+use Rattle.rules.specs.Sound.{kind}
+use Rattle.rules.specs.Demands.{AllListed, Finds, ReadSays}
+use Rattle.rules.specs.Invariant.{live, Inv}
+use Rattle.rules.proofs.Cells.{free-dead}
+use Rattle.rules.proofs.Positions.{kind-at}
 use Rattle.rules.proofs.Turn.{turn-field}
 use Rattle.rules.proofs.Reclaim.{reclaim-keeps}
-use Rattle.rules.proofs.Calls.{holds-var, var-live, no-first, first-call, call-fits}
+use Rattle.rules.proofs.Calls.{holds-var, var-live}
 use Rattle.rules.proofs.Step.{settledBy-variables, settled-inv, step-inv}
-use Rattle.rules.proofs.Facts.{step-answers}
+use Rattle.rules.proofs.Facts.{step-listed}
 
 -- ---- the calls before
 
@@ -59,10 +60,10 @@ module _ (s : Sizes) where
       rw two (status-at cs ds c (step s b h .heap) rest)
 
   -- each call is answered 0, or with one of its reasons
-  pub all-answer : (cs : List Call) (h : Heap) (rest : List ℤ) → AllAnswer (said cs (answerWords (calls s cs h .answers) ++ rest))
+  pub all-listed : (cs : List Call) (h : Heap) (rest : List ℤ) → AllListed (said cs (answerWords (calls s cs h .answers) ++ rest))
   unfolding calls
-  all-answer [] h rest = tt
-  all-answer (c ∷ cs) h rest = (step-answers s c h, all-answer cs (step s c h .heap) rest)
+  all-listed [] h rest = tt
+  all-listed (c ∷ cs) h rest = (step-listed s c h, all-listed cs (step s c h .heap) rest)
 
   pub after-inv : Limits s → (cs : List Call) (h : Heap) → Inv s h → AllFit (s .m) cs → Inv s (heapAfter s cs h)
   unfolding heapAfter
@@ -88,9 +89,9 @@ module _ (s : Sizes) (ok : Limits s) (h : Heap) (g : Inv s h) where
   unfolding var settled
   var-settled v = rw (settledBy-variables s (h .shape .variables) h)
 
-  at-settled : (v f : ℕ) → f < 2 → at (settled s h .shape) v f ≡ at (h .shape) v f
+  seen-settled : (v f : ℕ) → f < 2 → at (settled s h .shape) v f ≡ at (h .shape) v f
   unfolding at var
-  at-settled v f k = rw (var-settled v, at) (go (var (h .shape) v) refl)
+  seen-settled v f k = rw (var-settled v, at) (go (var (h .shape) v) refl)
     where
       go : (o : Option ℕ) → var (h .shape) v ≡ o
           → _≡_ {A = Field} (elim o [ none ↦ Nothing | some a ↦ field (settled s h .shape .fields) a f ]) (elim o [ none ↦ Nothing | some a ↦ field (h .shape .fields) a f ])
@@ -111,14 +112,14 @@ read-status s v f h = go (check (Do (Read v f)) (h .shape))
 -- by the field's kind
 record ByKind (x : Field) : Type 0 where
   nought : (noFigure x ≡ 0) ↔ (kindOf x ≡ 1)
+  eleven : noFigure x ≡ 11 → ⊥
   thirteen : (noFigure x ≡ 13) ↔ (kindOf x ≡ 2)
   fifteen : (noFigure x ≡ 15) ↔ (kindOf x ≡ 0)
-  not-eleven : noFigure x ≡ 11 → ⊥
 
 by-kind : (x : Field) → ((b : ℕ) → x ≡ Free b → ⊥) → ByKind x
-by-kind Nothing n = record { nought = (λ e. omega arith, λ e. omega arith); thirteen = (λ e. omega arith, λ e. omega arith); fifteen = (λ e. refl, λ e. refl); not-eleven = λ e. omega arith }
-by-kind (Figure x) n = record { nought = (λ e. refl, λ e. refl); thirteen = (λ e. omega arith, λ e. omega arith); fifteen = (λ e. omega arith, λ e. omega arith); not-eleven = λ e. omega arith }
-by-kind (Cell a) n = record { nought = (λ e. omega arith, λ e. omega arith); thirteen = (λ e. refl, λ e. refl); fifteen = (λ e. omega arith, λ e. omega arith); not-eleven = λ e. omega arith }
+by-kind Nothing n = record { nought = (omega arith, omega arith); eleven = omega arith; thirteen = (omega arith, omega arith); fifteen = (omega arith, omega arith) }
+by-kind (Figure x) n = record { nought = (omega arith, omega arith); eleven = omega arith; thirteen = (omega arith, omega arith); fifteen = (omega arith, omega arith) }
+by-kind (Cell a) n = record { nought = (omega arith, omega arith); eleven = omega arith; thirteen = (omega arith, omega arith); fifteen = (omega arith, omega arith) }
 by-kind (Free a) n = absurd (n a refl)
 
 pos-same : (j k : ℕ) → pos j ≡ pos k → j ≡ k
@@ -136,28 +137,22 @@ module _ (s : Sizes) (ok : Limits s) (h : Heap) (g : Inv s h) (v f : ℕ) (small
     in-use : live (h .shape .fields) a ≡ true
     in-use = var-live s ok (h .shape) (replay (s .cap) (h .log) (h .tables)) (g .good) v a e
 
-    there : 2 * a + f < length (h .shape .fields)
-    unfolding place
-    there = let l = place-in-1 (s .n) a (h .shape .fields) (g .good .len) in-use in omega arith
-
-    row-kind : getD (rowsOf s h .kinds) (2 * a + f) 3 ≡ kindOf (field (h .shape .fields) a f)
+    row-kind : kind (rowsOf s h .kinds) a f ≡ kindOf (field (h .shape .fields) a f)
     unfolding rowsOf field place
-    row-kind =
-        List·getD-map kindOf (h .shape .fields) (2 * a + f) (Free 0)
-        ∙ ap kindOf (getD-inside (h .shape .fields) (2 * a + f) (Free 0) Nothing there)
+    row-kind = kind-at (h .shape .fields) (2 * a + f)
 
     -- a cell in use has no free mark
     no-mark : (b : ℕ) → field (h .shape .fields) a f ≡ Free b → ⊥
     no-mark b = go f small
       where
         go : (f : ℕ) → f < 2 → field (h .shape .fields) a f ≡ Free b → ⊥
-        go zero k d = true≢false (sym in-use ∙ unfold live field in ap used (getD-inside (h .shape .fields) (place a 0) (Free 0) Nothing (unfold place in let l = there in omega arith) ∙ d))
+        go zero k d = true≢false (sym in-use ∙ free-dead (h .shape .fields) a b d)
         go (suc zero) k d = g .plain-1 a b d
         go (suc (suc f)) k d = absurd (omega arith)
 
     finds : (k : ℕ) → Finds (rowsOf s h) v f k ↔ (kindOf (field (h .shape .fields) a f) ≡ k)
     finds k = (
-      λ F. let c = pos-same a (F .cell) (sym (row-variable ∙ ap variableOf e) ∙ F .held) in sym row-kind ∙ ap (λ (b : ℕ). getD (rowsOf s h .kinds) (2 * b + f) 3) c ∙ F .there,
+      λ F. let c = pos-same a (F .cell) (sym (row-variable ∙ ap variableOf e) ∙ F .held) in sym row-kind ∙ ap (λ (b : ℕ). kind (rowsOf s h .kinds) b f) c ∙ F .there,
       λ d. record { cell = a; held = row-variable ∙ ap variableOf e; there = row-kind ∙ d },
     )
 
@@ -167,7 +162,7 @@ module _ (s : Sizes) (ok : Limits s) (h : Heap) (g : Inv s h) (v f : ℕ) (small
         let K = by-kind x no-mark in
         record {
           nought = (λ d. finds 1 .1 (K .nought .0 (pos-same _ _ d)), λ F. ap pos (K .nought .1 (finds 1 .0 F)));
-          eleven = (λ d. absurd (K .not-eleven (pos-same _ _ d)), λ d. absurd (not-neg a 0 (sym (row-variable ∙ ap variableOf e) ∙ d)));
+          eleven = (λ d. absurd (K .eleven (pos-same _ _ d)), λ d. absurd (not-neg a 0 (sym (row-variable ∙ ap variableOf e) ∙ d)));
           thirteen = (λ d. finds 2 .1 (K .thirteen .0 (pos-same _ _ d)), λ F. ap pos (K .thirteen .1 (finds 2 .0 F)));
           fifteen = (λ d. finds 0 .1 (K .fifteen .0 (pos-same _ _ d)), λ F. ap pos (K .fifteen .1 (finds 0 .0 F)));
         }
@@ -182,7 +177,7 @@ module _ (s : Sizes) (ok : Limits s) (h : Heap) (g : Inv s h) (v f : ℕ) (small
         fifteen = (λ d. absurd (let z = pos-same 11 15 d in omega arith), λ F. absurd (not-neg (F .cell) 0 (sym (F .held) ∙ w)));
       }
 
-  pub read-says : ReadSays (rowsOf s h) v f (pos (cond (isHeld (var (h .shape) v)) (noFigure (at (h .shape) v f)) 11))
+  read-says : ReadSays (rowsOf s h) v f (pos (cond (isHeld (var (h .shape) v)) (noFigure (at (h .shape) v f)) 11))
   unfolding at
   read-says = go (var (h .shape) v) refl
     where
@@ -193,18 +188,4 @@ module _ (s : Sizes) (ok : Limits s) (h : Heap) (g : Inv s h) (v f : ℕ) (small
 -- a read after these calls, by the rows of the heap that a settle leaves
 pub read-after : (s : Sizes) (ok : Limits s) (h : Heap) → Inv s h → (v f : ℕ) → f < 2 → ReadSays (rowsOf s (settled s h)) v f (pos (step s (Do (Read v f)) h .answer .status))
 read-after s ok h g v f k =
-    rw (read-status s v f h, ← var-settled s ok h g v, ← at-settled s ok h g v f k) (read-says s ok (settled s h) (settled-inv s ok h g) v f k)
-
--- ---- a read's words
-
-given-is : (q : Bool) (c x : Call) → given q c ≡ some x → c ≡ x
-given-is true c x e = cc
-given-is false c x e = let z : _≡_ {A = ℕ} 0 1 = cc in absurd (omega arith)
-
-pub read-first : (m v f : ℕ) (vs : List ℤ) (ds : List Call) → callsOf m (readWords v f ++ vs) ≡ some ds → (es : List Call) × ((ds ≡ Do (Read v f) ∷ es) × (f < 2))
-unfolding callsOf
-read-first m v f vs [] e = absurd (no-first (callOf m (pos 8) (pos v) (pos f) (pos 0)) (callsOf m vs) e)
-read-first m v f vs (d ∷ ds) e =
-    let p = first-call (callOf m (pos 8) (pos v) (pos f) (pos 0)) (callsOf m vs) d ds e in
-    let q : Do (Read v f) ≡ d = unfold callOf in given-is (isBelow m (pos v) && isBelow 2 (pos f) && isNought (pos 0)) (Do (Read v f)) d (p .0) in
-    (ds, (ap (λ (x : Call). x ∷ ds) (sym q), (rw (← q) at (call-fits m (pos 8) (pos v) (pos f) (pos 0) d (p .0))) .1))
+    rw (read-status s v f h, ← var-settled s ok h g v, ← seen-settled s ok h g v f k) (read-says s ok (settled s h) (settled-inv s ok h g) v f k)

@@ -1,9 +1,8 @@
 -- Lists: what no rule speaks of. Assumes nothing.
-use Prim.Native.Nat.{ℕ, zero, suc, _<_}
+use Prim.Native.Nat.{ℕ, zero, suc}
 use mathlib.Core.Path.{_≡_, refl, ap}
 use mathlib.Core.List.{List, [], _∷_, map}
-use native.Mathlib.Omega.{arith}
-use lib.ListN.{length, getD, set}
+use lib.ListN.{getD, set}
 
 pub map-set : {A B : Type 0} (f : A → B) (i : ℕ) (x : A) (l : List A) → map f (set l i x) ≡ set (map f l) i (f x)
 map-set f i x [] = refl
@@ -17,9 +16,3 @@ set-each P (y ∷ l) zero zero x d p q = p
 set-each P (y ∷ l) zero (suc j) x d p q = q
 set-each P (y ∷ l) (suc i) zero x d p q = q
 set-each P (y ∷ l) (suc i) (suc j) x d p q = set-each P l i j x d p q
-
--- inside a list what stands for the rest is not seen
-pub getD-inside : {A : Type 0} (l : List A) (i : ℕ) (d e : A) → i < length l → getD l i d ≡ getD l i e
-getD-inside [] i d e h = absurd (omega arith)
-getD-inside (x ∷ l) zero d e h = refl
-getD-inside (x ∷ l) (suc i) d e h = getD-inside l i d e (omega arith)

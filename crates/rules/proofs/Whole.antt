@@ -21,18 +21,13 @@ use Rattle.rules.specs.Refusals.{cleared}
 use Rattle.rules.specs.Whole.{Inside, Logged, Whole, startOf}
 use Rattle.rules.specs.Sound.{times, Sound, Sized}
 use Rattle.rules.specs.Invariant.{used, live, Chain, Small, Inv}
-use Rattle.rules.proofs.Cells.{live-below}
+use Rattle.rules.proofs.Cells.{live-below, free-dead}
 use Rattle.rules.specs.Head.{Limits}
 use Rattle.rules.proofs.Calls.{holds-var}
 use Rattle.rules.proofs.Positions.{Half, half, some-refs}
 use Rattle.rules.proofs.Roundtrip.{length-pad, length-words, mark-there, chain-within, first-within, zct-fits, addresses-fit, counts-fit, head-of-heap, rows-of-heap}
 
 -- ---- what fields and variables name is inside
-
-mark-dead : (fs : List Field) (i b : ℕ) → getD fs i Nothing ≡ Free b → used (getD fs i (Free 0)) ≡ false
-mark-dead [] i b e = refl
-mark-dead (x ∷ fs) zero b e = ap used e
-mark-dead (x ∷ fs) (suc i) b e = mark-dead fs i b e
 
 -- the address after a cell of the free list
 chain-next : (fs : List Field) (n : ℕ) → length fs ≡ 2 * n → (from : ℕ) (l : List ℕ) → Chain fs n from l → (a b : ℕ) → 1 ≤ times a l → field fs a 0 ≡ Free b → b ≤ n
@@ -60,7 +55,7 @@ module _ {s : Sizes} {h : Heap} (I : Inv s h) where
 
   -- the mark of a free cell names the next of the free list
   pub mark-inside : (i b : ℕ) → getD (h .shape .fields) i Nothing ≡ Free b → b ≤ s .n
-  unfolding field place live
+  unfolding field place
   mark-inside i b e = go (g .part) refl (g .small)
     where
       g : Half i
@@ -74,7 +69,7 @@ module _ {s : Sizes} {h : Heap} (I : Inv s h) where
           let t = mark-there (h .shape .fields) (2 * g .cell + 0) b e′ in
           let z = I .good .len in
           let o = I .frees .once (g .cell) (omega arith) in
-          let k = rw (mark-dead (h .shape .fields) (2 * g .cell + 0) b e′) at o in
+          let k = rw (free-dead (h .shape .fields) (g .cell) b e′) at o in
           chain-next (h .shape .fields) (s .n) z (h .first) (I .frees .list) (I .frees .chain) (g .cell) b (omega arith) e′
       go (suc zero) d l =
           let is1 = g .is in

@@ -3,17 +3,17 @@ use Prim.Native.Nat.{ℕ}
 use mathlib.Core.Path.{_≡_, refl, sym, _∙_}
 use mathlib.Core.Bool.{true, false, false≢true}
 use mathlib.Core.Option.{some}
-use mathlib.Core.List.{List, [], _∷_, _++_}
+use mathlib.Core.List.{List, [], _∷_}
 use native.Mathlib.Omega.{arith}
 use lib.IntN.{ℤ, pos, negsuc}
 use lib.ListN.{getD}
 use Rattle.rules.specs.declared.Head.{Head}
-use Rattle.rules.specs.declared.Deed.the-variants.{Link, Follow}
-use Rattle.rules.specs.declared.Call.the-variants.{Do}
+use Rattle.rules.specs.declared.Deed.the-variants.{Clear, Link, Put, Follow, Read}
+use Rattle.rules.specs.declared.Call.the-variants.{New, Do}
 use Rattle.rules.specs.Head.{freshHead, sized}
 use Rattle.rules.specs.Sound.{Sound, Sized, Word, heldAmong}
 use Rattle.rules.specs.Decide.{sound?, sized?, dec-word}
-use Rattle.rules.specs.Demands.{Demand1, Demand2, Demand3, AllAnswer, readWords, Finds, newWords, freeCells}
+use Rattle.rules.specs.Demands.{Demand1, Demand2, Demand3, AllListed, Finds, freeCells}
 use Rattle.rules.specs.Worthless.{saysFour, saysFourteen, answersNought, freesNothing, freesOnce, madeUpCount, thirteenForNothing, fifteenForCell, fifteenForEleven, fifteenForTwelve}
 use Rattle.rules.proofs.Tests.{sized-true, sound-true}
 use Rattle.rules.specs.Rows as R
@@ -56,35 +56,28 @@ four = pos 0 ∷ pos 0 ∷ pos 0 ∷ pos 0 ∷ []
 abbrev six : List ℤ
 six = pos 0 ∷ pos 0 ∷ pos 0 ∷ pos 0 ∷ pos 0 ∷ pos 0 ∷ []
 
--- clear 0
 abbrev clear₀ : List ℤ
-clear₀ = pos 3 ∷ pos 0 ∷ pos 0 ∷ pos 0 ∷ []
+clear₀ = C.wordsOf (Do (Clear 0) ∷ [])
 
--- new 0, put 0 0 7, read 0 0
+-- a figure put and read
 abbrev seven : N.Batch
-seven =
-    record {
-      calls =
-          pos 1 ∷ pos 0 ∷ pos 0 ∷ pos 0
-          ∷ pos 5 ∷ pos 0 ∷ pos 0 ∷ pos 7
-          ∷ pos 8 ∷ pos 0 ∷ pos 0 ∷ pos 0
-          ∷ [];
-      answers = six;
-    }
+seven = record { calls = C.wordsOf (New 0 ∷ Do (Put 0 0 (pos 7)) ∷ Do (Read 0 0) ∷ []); answers = six }
 
--- read 0 0; link 0 0 0; follow 0 0 0
 abbrev read₀ : List ℤ
-read₀ = readWords 0 0
+read₀ = C.wordsOf (Do (Read 0 0) ∷ [])
 
 abbrev link₀ : List ℤ
-link₀ = pos 4 ∷ pos 0 ∷ pos 0 ∷ pos 0 ∷ []
+link₀ = C.wordsOf (Do (Link 0 0 0) ∷ [])
+
+abbrev linkRead₀ : List ℤ
+linkRead₀ = C.wordsOf (Do (Link 0 0 0) ∷ Do (Read 0 0) ∷ [])
 
 abbrev follow₀ : List ℤ
-follow₀ = pos 7 ∷ pos 0 ∷ pos 0 ∷ pos 0 ∷ []
+follow₀ = C.wordsOf (Do (Follow 0 0 0) ∷ [])
 
 -- what they give, by computation
 record Computed : Type 0 where
-  says-14 : getD (saysFourteen .batch h₀ r₀ (newWords 0) two .answers) 0 (negsuc 0) ≡ pos 14
+  says-14 : getD (saysFourteen .batch h₀ r₀ (C.wordsOf (New 0 ∷ [])) two .answers) 0 (negsuc 0) ≡ pos 14
   fresh-accepted : answersNought .fresh (sized 1 1 2 3) r₀ .outcome .status ≡ 0
   reads-0 : N.AsEndless (N.but14 (N.saidIn 1 (seven ∷ []) (N.runOf answersNought (sized 1 1 2 3) r₀ (seven ∷ [])))) (E.endless 1) → pos 0 ≡ pos 7
   nothing-accepted : freesNothing .batch h₁ r₁ clear₀ two .outcome .status ≡ 0
@@ -101,16 +94,18 @@ record Computed : Type 0 where
   nothing-read : thirteenForNothing .batch h₁ r₁ read₀ two .outcome .status ≡ 0
   nothing-13 : getD (thirteenForNothing .batch h₁ r₁ read₀ two .answers) 0 (negsuc 0) ≡ pos 13
   nothing-there : Finds (thirteenForNothing .batch h₁ r₁ [] two .rows) 0 0 0
+  read-call : C.callsIn 1 read₀ ≡ some (Do (Read 0 0) ∷ [])
+  link-read-calls : C.callsIn 1 linkRead₀ ≡ some (Do (Link 0 0 0) ∷ Do (Read 0 0) ∷ [])
   link-call : C.callsIn 1 link₀ ≡ some (Do (Link 0 0 0) ∷ [])
-  cell-read : fifteenForCell .batch h₁ r₁ (link₀ ++ read₀) four .outcome .status ≡ 0
-  cell-15 : getD (fifteenForCell .batch h₁ r₁ (link₀ ++ read₀) four .answers) 2 (negsuc 0) ≡ pos 15
+  cell-read : fifteenForCell .batch h₁ r₁ linkRead₀ four .outcome .status ≡ 0
+  cell-15 : getD (fifteenForCell .batch h₁ r₁ linkRead₀ four .answers) 2 (negsuc 0) ≡ pos 15
   cell-there : Finds (fifteenForCell .batch h₁ r₁ link₀ four .rows) 0 0 2
   empty-read : fifteenForEleven .batch h₀ r₀ read₀ two .outcome .status ≡ 0
   empty-15 : getD (fifteenForEleven .batch h₀ r₀ read₀ two .answers) 0 (negsuc 0) ≡ pos 15
   empty-there : getD (fifteenForEleven .batch h₀ r₀ [] two .rows .variables) 0 (negsuc 0) ≡ negsuc 0
   follow-call : C.callsIn 1 follow₀ ≡ some (Do (Follow 0 0 0) ∷ [])
   follow-done : fifteenForTwelve .batch h₁ r₁ follow₀ two .outcome .status ≡ 0
-  follow-15 : AllAnswer (N.said (Do (Follow 0 0 0) ∷ []) (fifteenForTwelve .batch h₁ r₁ follow₀ two .answers)) → false ≡ true
+  follow-15 : AllListed (N.said (Do (Follow 0 0 0) ∷ []) (fifteenForTwelve .batch h₁ r₁ follow₀ two .answers)) → false ≡ true
 
 computed : Computed
 unfolding F.isSized F.isSound sound? sized? dec-word Word F.batchOf F.checkCalls F.checkAnswers F.checkSound F.accepted F.answered R.rowsOf R.headOf R.heapOf C.callOf C.callsOf C.callsIn U.enterZct U.leaveZct U.enterMrt U.leaveMrt U.onCreate U.onDestroy U.apply U.replay H.place H.field H.store S.freeCell S.reclaim S.replayed S.settledBy S.settled C.var C.at C.refuses C.logs C.write C.hold C.act C.value T.full T.noneFree T.wants T.settledIf T.takeCell T.doNew T.doDeed T.acted T.run T.step T.calls T.batch T.freeFrom T.fresh N.runFrom N.runOf N.saidIn E.endless E.endlessRun E.endlessStep F.freshOf
@@ -133,6 +128,8 @@ computed =
       nothing-read = refl;
       nothing-13 = refl;
       nothing-there = record { cell = 0; held = refl; there = refl };
+      read-call = refl;
+      link-read-calls = refl;
       link-call = refl;
       cell-read = refl;
       cell-15 = refl;
@@ -189,19 +186,19 @@ not-both j k e d n = n (let f = sym e ∙ d in cc)
 -- 13 for nothing: a cell with nothing in it is read
 pub worthless-thirteen-for-nothing : Demand1 thirteenForNothing → ⊥
 worthless-thirteen-for-nothing d =
-    let R = d .fifteen-exactly h₁ r₁ [] [] two [] 0 0 (computed .no-calls) (computed .nothing-read) in
+    let R = d .fifteen-exactly h₁ r₁ [] read₀ two [] [] 0 0 (computed .no-calls) (computed .read-call) (computed .nothing-read) in
     not-both 13 15 (computed .nothing-13) (R .fifteen .1 (computed .nothing-there)) (λ e. omega arith)
 
 -- 15 for a cell: a cell linked to itself is read
 pub worthless-fifteen-for-cell : Demand1 fifteenForCell → ⊥
 worthless-fifteen-for-cell d =
-    let R = d .fifteen-exactly h₁ r₁ link₀ [] four (Do (Link 0 0 0) ∷ []) 0 0 (computed .link-call) (computed .cell-read) in
+    let R = d .fifteen-exactly h₁ r₁ link₀ linkRead₀ four (Do (Link 0 0 0) ∷ []) [] 0 0 (computed .link-call) (computed .link-read-calls) (computed .cell-read) in
     not-both 15 13 (computed .cell-15) (R .thirteen .1 (computed .cell-there)) (λ e. omega arith)
 
 -- 15 before 11: a variable that holds nothing is read
 pub worthless-fifteen-for-eleven : Demand1 fifteenForEleven → ⊥
 worthless-fifteen-for-eleven d =
-    let R = d .fifteen-exactly h₀ r₀ [] [] two [] 0 0 (computed .no-calls) (computed .empty-read) in
+    let R = d .fifteen-exactly h₀ r₀ [] read₀ two [] [] 0 0 (computed .no-calls) (computed .read-call) (computed .empty-read) in
     let held = R .fifteen .0 (computed .empty-15) .held in
     let none-held = computed .empty-there in
     let z : _≡_ {A = ℕ} 0 1 = cc in

@@ -6,10 +6,11 @@ use lib.Dec.{eqb}
 use lib.ListN.{length, getD, replicate, take}
 use lib.IntN.{ℤ, pos, negsuc}
 use Rattle.rules.specs.declared.Head.{Head}
-use Rattle.rules.specs.declared.Deed.the-variants.{Copy, Clear, Link, Put, Blank, Follow, Read, Same}
+use Rattle.rules.specs.declared.Deed.the-variants.{Clear, Link, Put, Blank, Follow, Read, Same}
 use Rattle.rules.specs.declared.Call.{Call}
 use Rattle.rules.specs.declared.Call.the-variants.{New, Do, Settle}
 use Rattle.rules.specs.Head.{freshHead, sized}
+use Rattle.rules.specs.Call.{wordsOf}
 use Rattle.rules.specs.Rows.{Lent, lent}
 use Rattle.rules.specs.Sound.{listFrom}
 use Rattle.rules.specs.Refusals.{After, Batched, freshOf, batchOf}
@@ -39,22 +40,6 @@ pub record Case : Type 0 where
 
 -- ---- how it is run: the calls' words, through `batchOf` from `freshOf`
 
-abbrev pub wordsOf : Call → List ℤ
-wordsOf (New v) = pos 1 ∷ pos v ∷ pos 0 ∷ pos 0 ∷ []
-wordsOf (Do (Copy v w)) = pos 2 ∷ pos v ∷ pos w ∷ pos 0 ∷ []
-wordsOf (Do (Clear v)) = pos 3 ∷ pos v ∷ pos 0 ∷ pos 0 ∷ []
-wordsOf (Do (Link v f w)) = pos 4 ∷ pos v ∷ pos f ∷ pos w ∷ []
-wordsOf (Do (Put v f x)) = pos 5 ∷ pos v ∷ pos f ∷ x ∷ []
-wordsOf (Do (Blank v f)) = pos 6 ∷ pos v ∷ pos f ∷ pos 0 ∷ []
-wordsOf (Do (Follow v f w)) = pos 7 ∷ pos v ∷ pos f ∷ pos w ∷ []
-wordsOf (Do (Read v f)) = pos 8 ∷ pos v ∷ pos f ∷ pos 0 ∷ []
-wordsOf (Do (Same v w)) = pos 9 ∷ pos v ∷ pos w ∷ pos 0 ∷ []
-wordsOf Settle = pos 10 ∷ pos 0 ∷ pos 0 ∷ pos 0 ∷ []
-
-abbrev pub allWords : List Call → List ℤ
-allWords [] = []
-allWords (c ∷ cs) = wordsOf c ++ allWords cs
-
 -- rows of the right lengths for n cells, 3 variables and 4 log entries
 abbrev pub lentRows : ℕ → Lent
 lentRows n =
@@ -65,7 +50,7 @@ unfoldable pub freshly : ℕ → After
 freshly n = freshOf (sized n 3 4 3) (lentRows n)
 
 unfoldable pub outcomeOf : Case → Batched
-outcomeOf c = batchOf (freshly (c .cells) .outcome .head) (freshly (c .cells) .rows) (allWords (c .calls)) (replicate (2 * length (c .calls)) (negsuc 6))
+outcomeOf c = batchOf (freshly (c .cells) .outcome .head) (freshly (c .cells) .rows) (wordsOf (c .calls)) (replicate (2 * length (c .calls)) (negsuc 6))
 
 -- ---- how a claim is tested
 

@@ -14,10 +14,10 @@ use Rattle.rules.specs.declared.Call.{Call}
 use Rattle.rules.specs.declared.Call.the-variants.{New, Do, Settle}
 use Rattle.rules.specs.Head.{freshHead, zeroHead}
 use Rattle.rules.specs.Table.{has}
-use Rattle.rules.specs.Call.{callsIn, isNought}
+use Rattle.rules.specs.Call.{callsIn, wordsOf, isNought}
 use Rattle.rules.specs.Step.{fresh}
 use Rattle.rules.specs.Rows.{Lent, rowsOf}
-use Rattle.rules.specs.Sound.{Sound, Sized, Agree, pointersTo, heldAmong, times}
+use Rattle.rules.specs.Sound.{Sound, Sized, kind, Agree, pointersTo, heldAmong, times}
 use Rattle.rules.specs.Refusals.{Batched, outcome, leaves, leavesWith, cleared, accepted}
 use Rattle.rules.specs.Endless.{endless}
 use Rattle.rules.specs.Run.{Heaps, Batch, runOf, AlikeBatches, AlikeRows, AlikeRuns, Said, said, saidIn, but14, AsEndless}
@@ -56,24 +56,20 @@ reasons (Do (Same v w)) = 11 ∷ []
 reasons Settle = []
 
 -- a call is answered 0, or with one of its reasons and the value nought
-abbrev pub Answers : Call → ℤ → ℤ → Type 0
-Answers c (pos zero) x = Unit {0}
-Answers c (pos (suc k)) x = (has (suc k) (reasons c) ≡ true) × (x ≡ pos 0)
-Answers c (negsuc k) x = ⊥
+abbrev pub Listed : Call → ℤ → ℤ → Type 0
+Listed c (pos zero) x = Unit {0}
+Listed c (pos (suc k)) x = (has (suc k) (reasons c) ≡ true) × (x ≡ pos 0)
+Listed c (negsuc k) x = ⊥
 
-abbrev pub AllAnswer : List Said → Type 0
-AllAnswer [] = Unit {0}
-AllAnswer (a ∷ as′) = Answers (a .call) (a .status) (a .value) × AllAnswer as′
+abbrev pub AllListed : List Said → Type 0
+AllListed [] = Unit {0}
+AllListed (a ∷ as′) = Listed (a .call) (a .status) (a .value) × AllListed as′
 
--- the words of: read v f
-abbrev pub readWords : ℕ → ℕ → List ℤ
-readWords v f = pos 8 ∷ pos v ∷ pos f ∷ pos 0 ∷ []
-
--- in these rows v holds a cell whose field f is of this kind: 0 nothing, 1 figure, 2 cell
-pub record Finds (r : Lent) (v f kind : ℕ) : Type 0 where
+-- in these rows v holds a cell whose field f is of kind k: 0 nothing, 1 a figure, 2 a cell
+pub record Finds (r : Lent) (v f k : ℕ) : Type 0 where
   pub cell : ℕ
   pub held : getD (r .variables) v (negsuc 0) ≡ pos cell
-  pub there : getD (r .kinds) (2 * cell + f) 3 ≡ kind
+  pub there : kind (r .kinds) cell f ≡ k
 
 -- the status of read v f, by what these rows hold
 pub record ReadSays (r : Lent) (v f : ℕ) (status : ℤ) : Type 0 where
@@ -96,12 +92,12 @@ pub record Demand1 (H : Heaps) : Type 0 where
       → (length (H .batch h r ws row .answers) ≡ length row) × (drop (2 * length cs) (H .batch h r ws row .answers) ≡ drop (2 * length cs) row)
   -- a call of an accepted batch is refused with 11 to 15 only, each for the calls that it is listed for, and then has value nought
   pub refused-11-to-15 : (h : Head) (r : Lent) (ws row : List ℤ) (cs : List Call) → callsIn (h .sizes .m) ws ≡ some cs → H .batch h r ws row .outcome .status ≡ 0
-      → AllAnswer (said cs (H .batch h r ws row .answers))
-  -- a read, wherever it stands in an accepted batch, is answered 15 exactly if its variable holds a cell whose field holds nothing, and 13
-  -- exactly if it holds a cell there: by the rows that the batch of the calls before it leaves
-  pub fifteen-exactly : (h : Head) (r : Lent) (us vs row : List ℤ) (cs : List Call) (v f : ℕ) → callsIn (h .sizes .m) us ≡ some cs
-      → H .batch h r (us ++ (readWords v f ++ vs)) row .outcome .status ≡ 0
-      → ReadSays (H .batch h r us row .rows) v f (getD (H .batch h r (us ++ (readWords v f ++ vs)) row .answers) (2 * length cs) (negsuc 0))
+      → AllListed (said cs (H .batch h r ws row .answers))
+  -- a read, wherever it stands in an accepted batch (calls before it, the read, others after it), is answered 15 exactly if its variable holds a cell
+  -- whose field holds nothing, and 13 exactly if it holds a cell there: by the rows that the batch of the calls before it leaves
+  pub fifteen-exactly : (h : Head) (r : Lent) (us ws row : List ℤ) (cs ds : List Call) (v f : ℕ)
+      → callsIn (h .sizes .m) us ≡ some cs → callsIn (h .sizes .m) ws ≡ some (cs ++ Do (Read v f) ∷ ds) → H .batch h r ws row .outcome .status ≡ 0
+      → ReadSays (H .batch h r us row .rows) v f (getD (H .batch h r ws row .answers) (2 * length cs) (negsuc 0))
   -- the fresh call gives only 1, with a head of zeros; else a fresh heap
   pub fresh-refuses-only-1 : (s : Sizes) (r : Lent)
       → ((Sized (freshHead s) r → ⊥) → H .fresh s r ≡ leaves (outcome 1 zeroHead 0) r)
@@ -132,10 +128,6 @@ handedOut (a ∷ as′) = cond (isNew (a .call)) (cond (isNought (a .status)) 1 
 abbrev pub freeCells : Lent → ℕ
 freeCells r = times 3 (r .kinds)
 
--- the words of: new v
-abbrev pub newWords : ℕ → List ℤ
-newWords v = pos 1 ∷ pos v ∷ pos 0 ∷ pos 0 ∷ []
-
 pub record Demand2 (H : Heaps) : Type 0 where
   -- what the rules give: tables, free list, fields, answers and count
   pub by-the-rules : (h : Head) (r : Lent) (ws row : List ℤ) (cs : List Call) → callsIn (h .sizes .m) ws ≡ some cs → H .batch h r ws row .outcome .status ≡ 0 → H .batch h r ws row ≡ accepted h r cs row
@@ -151,10 +143,10 @@ pub record Demand2 (H : Heaps) : Type 0 where
       → freeCells r + H .batch h r ws row .outcome .count ≡ freeCells (H .batch h r ws row .rows) + handedOut (said cs (H .batch h r ws row .answers))
   -- free cells are handed out again: a new takes the first
   pub handed-out-again : (h : Head) (r : Lent) (v : ℕ) (row : List ℤ) → Sized h r → Sound h r → v < h .sizes .m → 2 ≤ length row → h .free < h .sizes .n
-      → (getD (H .batch h r (newWords v) row .answers) 0 (negsuc 0) ≡ pos 0) × (getD (H .batch h r (newWords v) row .rows .variables) v (negsuc 0) ≡ pos (h .free))
+      → (getD (H .batch h r (wordsOf (New v ∷ [])) row .answers) 0 (negsuc 0) ≡ pos 0) × (getD (H .batch h r (wordsOf (New v ∷ [])) row .rows .variables) v (negsuc 0) ≡ pos (h .free))
   -- 14 is given exactly if no cell is free (a sound heap is settled)
   pub fourteen-exactly : (h : Head) (r : Lent) (v : ℕ) (row : List ℤ) → Sized h r → Sound h r → v < h .sizes .m → 2 ≤ length row
-      → (getD (H .batch h r (newWords v) row .answers) 0 (negsuc 0) ≡ pos 14 → h .free ≡ h .sizes .n) × (h .free ≡ h .sizes .n → getD (H .batch h r (newWords v) row .answers) 0 (negsuc 0) ≡ pos 14)
+      → (getD (H .batch h r (wordsOf (New v ∷ [])) row .answers) 0 (negsuc 0) ≡ pos 14 → h .free ≡ h .sizes .n) × (h .free ≡ h .sizes .n → getD (H .batch h r (wordsOf (New v ∷ [])) row .answers) 0 (negsuc 0) ≡ pos 14)
   -- the audit says yes exactly for a sound heap
   pub audit-exactly : (h : Head) (r : Lent) → Sized h r → (H .audit h r .outcome .status ≡ 0 → Sound h r) × (Sound h r → H .audit h r .outcome .status ≡ 0)
 

@@ -13,7 +13,7 @@ use lib.Seq.{drop-cons, drop-length}
 use Rattle.rules.specs.declared.Call.{Call}
 use Rattle.rules.specs.declared.Call.the-variants.{Settle}
 use Rattle.rules.specs.Call.{callOf, andThen, callsOf, callsIn}
-use Rattle.rules.proofs.Calls.{no-first, first-call}
+use Rattle.rules.proofs.Alike.{no-first, first-call}
 use Rattle.words.specs.Words.{isSome, callAt, Calls, Decides}
 
 -- calls before those of the rest

@@ -1,6 +1,6 @@
 use mathlib.Core.Path.{ap, _∙_}
 use mathlib.Core.Bool.{Bool}
-use Rattle.rules.specs.Call.{var, isCell, want}
+use Rattle.rules.specs.Call.{var, isCell, want, refuses}
 use borrow.Author.Needs.{needs}
 use Rattle.before.proofs.check_follow.Statement.{statement}
 use Rattle.before.proofs.check_follow.Tie as tie
@@ -18,9 +18,9 @@ eleven-first-requires : tie.Need-eleven-first-requires
 eleven-first-requires c κs = search needs
 
 returns : tie.Need-returns
-unfolding var
+unfolding refuses var
 returns c =
-    λ s S.
+    λ w s S.
     let t = c .before .before .is-cell .ensures ∙ ap isCell (c .before .before .before .field-of .ensures s S) in
     rw (← c .before .want .ensures ∙ ap (λ (b : Bool). want b 12) t) (c .eleven-first .ensures _ (S .held))
 

@@ -1,5 +1,5 @@
 use mathlib.Core.Path.{ap, _∙_}
-use Rattle.rules.specs.Call.{var, noFigure}
+use Rattle.rules.specs.Call.{var, noFigure, refuses}
 use borrow.Author.Needs.{needs}
 use Rattle.before.proofs.check_read.Statement.{statement}
 use Rattle.before.proofs.check_read.Tie as tie
@@ -14,7 +14,7 @@ eleven-first-requires : tie.Need-eleven-first-requires
 eleven-first-requires c κs = search needs
 
 returns : tie.Need-returns
-unfolding var
+unfolding refuses var
 returns c =
     λ s S.
     let t = c .before .no-figure .ensures ∙ ap noFigure (c .before .before .field-of .ensures s S) in

@@ -73,11 +73,9 @@ unfolding refuses var
 returns-5 c = λ s S. rw (c .before .before .deed3 .given .1) (c .eleven-first2 .ensures _ (S .held))
 
 returns-6 : tie.Need-returns-6
-unfolding refuses
-returns-6 c = λ s S. rw (c .before .before .deed4 .given .1) (c .check-follow .ensures s S)
+returns-6 c = λ s S. rw (c .before .before .deed4 .given .1) (c .check-follow .ensures _ s S)
 
 returns-7 : tie.Need-returns-7
-unfolding refuses
 returns-7 c = λ s S. rw (c .before .before .deed5 .given .1) (c .check-read .ensures s S)
 
 returns-8 : tie.Need-returns-8
