@@ -156,6 +156,28 @@ module _ (h : Head) (r : Lent) (ws row : List ℤ) where
       let t = taken (accepts way z (record { calls = cs; decoded = d; room = k }) u) in
       t .left ∙ ap (λ (ds : List Call). accepted h r ds row) (same-calls (t .callable .calls) cs (t .callable .decoded) d)
 
+-- a batch that is accepted, and another with no more calls from the same rows
+pub record Both (h : Head) (r : Lent) (us ws row : List ℤ) (cs es : List Call) : Type 0 where
+  pub sized : Sized h r
+  pub sound : Sound h r
+  pub fit : AllFit (h .sizes .m) es
+  pub left : batchOf h r ws row ≡ accepted h r es row
+  pub left′ : batchOf h r us row ≡ accepted h r cs row
+
+pub both : (h : Head) (r : Lent) (us ws row : List ℤ) (cs es : List Call) → callsIn (h .sizes .m) us ≡ some cs → callsIn (h .sizes .m) ws ≡ some es → length cs ≤ length es
+    → batchOf h r ws row .outcome .status ≡ 0 → Both h r us ws row cs es
+both h r us ws row cs es d e l a =
+    let t = taken h r ws row a in
+    let q = same-calls h r ws row (t .callable .calls) es (t .callable .decoded) e in
+    let room : 2 * length cs ≤ length row = let n = ap length q in let k = t .callable .room in omega arith in
+    record {
+      sized = t .sized;
+      sound = t .sound;
+      fit = calls-in-fit (h .sizes .m) ws es e;
+      left = t .left ∙ ap (λ (ds : List Call). accepted h r ds row) q;
+      left′ = accepted-as h r us row cs (t .sized) d room (t .sound);
+    }
+
 -- ---- answers: two words for each call
 
 pub answers-long : (s : Sizes) (cs : List Call) (h : Heap) → length (calls s cs h .answers) ≡ length cs
@@ -213,10 +235,8 @@ module _ (h : Head) (r : Lent) (row : List ℤ) (cs ds : List Call) (v f : ℕ) 
   reads : (us ws : List ℤ) → callsIn (h .sizes .m) us ≡ some cs → callsIn (h .sizes .m) ws ≡ some es → batchOf h r ws row .outcome .status ≡ 0
       → ReadSays (batchOf h r us row .rows) v f (getD (batchOf h r ws row .answers) (2 * length cs) (negsuc 0))
   reads us ws d e a =
-      let t = taken h r ws row a in
-      let q = same-calls h r ws row (t .callable .calls) es (t .callable .decoded) e in
-      let room : 2 * length cs ≤ length row = let l = ap length q ∙ length-append cs (Do (Read v f) ∷ ds) in let k = t .callable .room in omega arith in
-      rw (accepted-as h r us row cs (t .sized) d room (t .sound), t .left, q) (accepted-read (t .sized) (t .sound) (calls-in-fit (h .sizes .m) ws es e))
+      let B = both h r us ws row cs es d e (let l = length-append cs (Do (Read v f) ∷ ds) in omega arith) a in
+      rw (B .left′, B .left) (accepted-read (B .sized) (B .sound) (B .fit))
 
 -- ---- fresh and audit
 

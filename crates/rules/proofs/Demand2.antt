@@ -1,19 +1,21 @@
 -- Demand 2 of our heap: tables as the rules give them, exact counts, all and only what may go is freed, 14 exactly when full. Assumes nothing.
 use Prim.Native.Nat.{ℕ, zero, suc, _+_, _*_, _<_, _≤_}
 use mathlib.Core.Path.{_≡_, refl, sym, ap, _∙_, subst}
+use mathlib.Core.Logic.{_↔_}
 use mathlib.Core.Bool.{Bool, true, false}
 use mathlib.Core.Option.{none, some}
 use mathlib.Core.List.{List, [], _∷_, _++_, map}
 use native.Mathlib.Omega.{arith}
-use lib.ListN.{length, getD, drop, List·getD-map}
+use lib.ListN.{length, getD, drop, length-append, List·getD-map}
 use lib.Seq.{getD-set-same}
 use lib.IntN.{ℤ, pos, negsuc}
-use borrow.Author.Tests.{lt-ltb, le-ltb, eq-eqb, ne-eqb, eqb-true}
+use borrow.Author.Tests.{lt-ltb, le-ltb, ne-eqb}
 use Rattle.rules.specs.declared.Head.{Head}
 use Rattle.rules.specs.declared.Field.{Field}
 use Rattle.rules.specs.declared.Field.the-variants.{Nothing, Figure, Cell, Free}
 use Rattle.rules.specs.declared.Call.{Call}
-use Rattle.rules.specs.declared.Call.the-variants.{New}
+use Rattle.rules.specs.declared.Deed.the-variants.{Clear}
+use Rattle.rules.specs.declared.Call.the-variants.{New, Do}
 use Rattle.rules.specs.declared.Sizes.{Sizes}
 use Rattle.rules.specs.Field.{kindOf, variableOf}
 use Rattle.rules.specs.Heap.{Heap, place, field}
@@ -22,19 +24,21 @@ use Rattle.rules.specs.Call.{Answer, AllFit, callOf, callsOf, callsIn, w
 use Rattle.rules.specs.Step.{Stepped, full, noneFree, wants, settledIf, takeCell, doNew, acted, run, step, calls, unfreed, batch}
 use Rattle.rules.specs.Rows.{Lent, rowsOf, headOf, heapOf}
 use Rattle.rules.specs.Sound.{Sound, Sized, heldAmong, times}
-use Rattle.rules.specs.Refusals.{Batched, answerWords, answered, accepted, batchOf, auditOf, isSound}
+use Rattle.rules.specs.Refusals.{Batched, outcome, answerWords, answered, accepted, batchOf, auditOf, isSound}
 use Rattle.rules.specs.Run.{ours, said}
-use Rattle.rules.specs.Demands.{handedOut, freeCells, Demand2}
+use Rattle.rules.specs.Demands.{handedOut, freeCells, SameLeft, Demand2}
 use Rattle.rules.specs.Invariant.{Inv}
 use Rattle.rules.proofs.Tests.{sound-true, sound-false}
 use Rattle.rules.proofs.Cells.{lives}
-use Rattle.rules.proofs.Calls.{calls-in-fit}
-use Rattle.rules.proofs.Step.{settled-done, step-inv}
+use Rattle.rules.proofs.Calls.{calls-in-fit, fit-parts}
+use Rattle.rules.proofs.Step.{settled-done, step-inv, counted-from-0}
 use Rattle.rules.proofs.Roundtrip.{rows-of-heap}
 use Rattle.rules.proofs.Whole.{twice}
 use Rattle.rules.proofs.Entry.{entry-ended, exit-ended, exit-sized, exit-sound}
-use Rattle.rules.proofs.Demand1.{Accepts, taken, same-calls, answers-long, audit-0, audit-4, accepted-as}
+use Rattle.rules.proofs.Demand1.{Accepts, taken, same-calls, answers-long, audit-0, audit-4, accepted-as, both}
 use Rattle.rules.proofs.Facts as facts
+use Rattle.rules.proofs.Inside.{heapAfter, calls-end, calls-after, status-at, after-inv, pos-same}
+use Rattle.rules.proofs.LetGo.{fourteen-cleared, kept-settled, after-clear}
 
 -- ---- free cells and cells in use
 
@@ -70,6 +74,16 @@ handed-in (c ∷ cs) [] rest e = absurd (omega arith)
 handed-in (c ∷ cs) (a ∷ as′) rest e = let i = handed-in cs as′ rest (omega arith) in omega arith
 
 -- ---- an accepted batch
+
+-- what is left is told by the heap at its end
+same-left : (h : Head) (r : Lent) (cs ds : List Call) (row : List ℤ) → batch (h .sizes) cs (heapOf h r) .heap ≡ batch (h .sizes) ds (heapOf h r) .heap
+    → SameLeft (accepted h r cs row) (accepted h r ds row)
+unfolding accepted
+same-left h r cs ds row e =
+    record {
+      outcomes = ap (λ (x : Heap). outcome 0 (headOf (h .sizes) x) (x .freed)) e;
+      same-rows = ap (rowsOf (h .sizes)) e;
+    }
 
 module _ {h : Head} {r : Lent} (Z : Sized h r) (S : Sound h r) (cs : List Call) (F : AllFit (h .sizes .m) cs) where
   s : Sizes
@@ -122,17 +136,6 @@ module _ {h : Head} {r : Lent} (Z : Sized h r) (S : Sound h r) (v : ℕ) (k : v 
   unfolding heapOf
   first-is = refl
 
-  fourteen : (getD (batchOf h r (wordsOf (New v ∷ [])) row .answers) 0 (negsuc 0) ≡ pos 14 → h .free ≡ h .sizes .n) × (h .free ≡ h .sizes .n → getD (batchOf h r (wordsOf (New v ∷ [])) row .answers) 0 (negsuc 0) ≡ pos 14)
-  unfolding noneFree
-  fourteen =
-      let ok = Z .within .limits in
-      let e = ap (λ (o : Batched). getD (o .answers) 0 (negsuc 0)) new-left ∙ new-status in
-      let f = facts.fourteen-full (h .sizes) ok v (heapOf h r) ((entry-ended Z S) .inv) in
-      let a = ap (noneFree (h .sizes)) (facts.settled-again (h .sizes) ok (heapOf h r) (entry-ended Z S)) in (
-        λ p. let w : step (h .sizes) (New v) (heapOf h r) .answer .status ≡ 14 = cc in sym first-is ∙ eqb-true _ _ (sym a ∙ f .0 w),
-        λ p. e ∙ ap pos (f .1 (a ∙ eq-eqb _ _ (first-is ∙ p))),
-      )
-
   module _ (some-free : h .free < h .sizes .n) where
     -- no settle is needed: the log is empty, and a cell is free
     new-taken : step (h .sizes) (New v) (heapOf h r) ≡ record { heap = takeCell v (heapOf h r); answer = record { status = 0; value = pos 0 } }
@@ -168,6 +171,45 @@ module _ {h : Head} {r : Lent} (Z : Sized h r) (S : Sound h r) (v : ℕ) (k : v 
         new-row : getD (accepted h r (New v ∷ []) row .rows .variables) v (negsuc 0) ≡ variableOf (getD (batch (h .sizes) (New v ∷ []) (heapOf h r) .heap .shape .variables) v none)
         new-row = unfold accepted rowsOf in List·getD-map variableOf (batch (h .sizes) (New v ∷ []) (heapOf h r) .heap .shape .variables) v none
 
+-- ---- a new inside a batch, after the calls cs
+
+module _ {h : Head} {r : Lent} (Z : Sized h r) (S : Sound h r) (cs : List Call) (F : AllFit (h .sizes .m) cs) (v : ℕ) (row : List ℤ) where
+  -- the heap before it
+  before : Heap
+  before = heapAfter (h .sizes) cs (unfreed (heapOf h r))
+
+  before-inv : Inv (h .sizes) before
+  unfolding before
+  before-inv = let ok = Z .within .limits in after-inv (h .sizes) ok cs (unfreed (heapOf h r)) (counted-from-0 (h .sizes) ok (heapOf h r) (entry-ended Z S .inv)) F
+
+  status-of : (ds : List Call) → getD (accepted h r (cs ++ New v ∷ ds) row .answers) (2 * length cs) (negsuc 0) ≡ pos (step (h .sizes) (New v) before .answer .status)
+  unfolding accepted answered batch before
+  status-of ds = let s = h .sizes in let k = unfreed (heapOf h r) in status-at s cs ds (New v) k (drop (2 * length (calls s (cs ++ New v ∷ ds) k .answers)) row)
+
+  heap-of : (es : List Call) → batch (h .sizes) (cs ++ es) (heapOf h r) .heap ≡ calls (h .sizes) es before .heap
+  unfolding batch before
+  heap-of es = calls-after (h .sizes) cs es (unfreed (heapOf h r))
+
+  fourteen : (ds : List Call) → (getD (accepted h r (cs ++ New v ∷ ds) row .answers) (2 * length cs) (negsuc 0) ≡ pos 14) ↔ (accepted h r (cs ++ Do (Clear v) ∷ []) row .outcome .head .free ≡ h .sizes .n)
+  unfolding accepted headOf calls
+  fourteen ds =
+      let f = fourteen-cleared (h .sizes) (Z .within .limits) v before before-inv in
+      rw (status-of ds, heap-of (Do (Clear v) ∷ [])) (λ e. f .0 (pos-same _ _ e), λ e. ap pos (f .1 e))
+
+  keeps : getD (accepted h r (cs ++ New v ∷ []) row .answers) (2 * length cs) (negsuc 0) ≡ pos 14 → SameLeft (accepted h r (cs ++ New v ∷ []) row) (accepted h r cs row)
+  unfolding calls batch before
+  keeps e =
+      let k = kept-settled (h .sizes) (Z .within .limits) v before before-inv (pos-same _ _ (sym (status-of []) ∙ e)) in
+      same-left h r (cs ++ New v ∷ []) cs row (heap-of (New v ∷ []) ∙ k ∙ sym (calls-end (h .sizes) cs (unfreed (heapOf h r))))
+
+  lets-go : (ds : List Call) → getD (accepted h r (cs ++ New v ∷ ds) row .answers) (2 * length cs) (negsuc 0) ≡ pos 0
+      → SameLeft (accepted h r (cs ++ New v ∷ ds) row) (accepted h r (cs ++ Do (Clear v) ∷ New v ∷ ds) row)
+  unfolding calls
+  lets-go ds e =
+      let k = after-clear (h .sizes) (Z .within .limits) v before before-inv (pos-same _ _ (sym (status-of ds) ∙ e)) in
+      same-left h r (cs ++ New v ∷ ds) (cs ++ Do (Clear v) ∷ New v ∷ ds) row
+      (heap-of (New v ∷ ds) ∙ ap (λ (x : Heap). calls (h .sizes) ds x .heap) (sym k) ∙ sym (heap-of (Do (Clear v) ∷ New v ∷ ds)))
+
 -- ---- the demand
 
 -- an accepted batch's calls are fit
@@ -195,7 +237,15 @@ demand-2 =
           let q = same-calls h r ws row (t .callable .calls) cs (t .callable .decoded) e in
           rw (t .left, ← q) (count-freed (t .sized) (t .sound) (t .callable .calls) (taken-fit t) row);
       handed-out-again = λ h r v row Z S k room f. handed Z S v k row room f;
-      fourteen-exactly = λ h r v row Z S k room. fourteen Z S v k row room;
+      new-lets-go = λ h r us ws row cs ds v d e a o.
+          let B = both h r ws us row (cs ++ New v ∷ ds) (cs ++ Do (Clear v) ∷ New v ∷ ds) e d (let l = length-append cs (New v ∷ ds) in let m = length-append cs (Do (Clear v) ∷ New v ∷ ds) in omega arith) a in
+          rw (B .left, B .left′) (lets-go (B .sized) (B .sound) cs (fit-parts (h .sizes .m) cs (Do (Clear v) ∷ New v ∷ ds) (B .fit) .0) v row ds (rw (B .left′) at o));
+      fourteen-exactly = λ h r us ws row cs ds v d e a.
+          let B = both h r us ws row (cs ++ Do (Clear v) ∷ []) (cs ++ New v ∷ ds) d e (let l = length-append cs (New v ∷ ds) in let m = length-append cs (Do (Clear v) ∷ []) in omega arith) a in
+          rw (B .left, B .left′) (fourteen (B .sized) (B .sound) cs (fit-parts (h .sizes .m) cs (New v ∷ ds) (B .fit) .0) v row ds);
+      fourteen-keeps = λ h r us ws row cs v d e a o.
+          let B = both h r us ws row cs (cs ++ New v ∷ []) d e (let l = length-append cs (New v ∷ []) in omega arith) a in
+          rw (B .left, B .left′) (keeps (B .sized) (B .sound) cs (fit-parts (h .sizes .m) cs (New v ∷ []) (B .fit) .0) v row (rw (B .left) at o));
       audit-exactly = λ h r Z. (audit-yes h r Z, λ S. ap (λ o. o .outcome .status) (audit-0 h r Z S));
     }
   where

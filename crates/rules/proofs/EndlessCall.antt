@@ -9,7 +9,7 @@ use native.Mathlib.Omega.{arith}
 use lib.Dec.{eqb}
 use lib.IntN.{pos}
 use lib.ListN.{length, getD, List·getD-append, length-append}
-use lib.Seq.{getD-append-add}
+use lib.Seq.{getD-append-add, set-set}
 use borrow.Author.Tests.{eqb-true, ne-eqb}
 use Rattle.rules.specs.declared.Field.{Field}
 use Rattle.rules.specs.declared.Field.the-variants.{Nothing}
@@ -23,7 +23,7 @@ use Rattle.rules.specs.Heap.{Tables, Shape, Heap, place, field, store}
 use Rattle.rules.specs.Rules.{replay}
 use Rattle.rules.specs.Settle.{freeCell, replayed, settledBy, settled}
 use Rattle.rules.specs.Call.{InRange, Fits, unless, var, refuses, check, hold, act}
-use Rattle.rules.specs.Step.{Stepped, refused, noneFree, wants, settledIf, settledFor, takeCell, doNew, doDeed, acted, run, step, fresh}
+use Rattle.rules.specs.Step.{Stepped, refused, noneFree, wants, counted, settledIf, takeCell, doNew, doDeed, acted, run, step, fresh}
 use Rattle.rules.specs.Endless.{Endless, endless, EndlessStep, endlessRun, endlessStep, says}
 use Rattle.rules.specs.Run.{NotSettle}
 use Rattle.rules.specs.Invariant.{live, Good, Inv}
@@ -33,8 +33,8 @@ use Rattle.rules.proofs.Turn.{turn-field, turn-stays}
 use Rattle.rules.proofs.Reclaim.{reclaim-keeps}
 use Rattle.rules.proofs.FreeList.{Taken}
 use Rattle.rules.proofs.Calls.{act-fields, var-live, store-live, act-keeps}
-use Rattle.rules.proofs.Step.{taken, for-inv, for-right}
-use Rattle.rules.proofs.Facts.{call-refused}
+use Rattle.rules.proofs.Step.{taken, counting, counting-inv, readied, readied-inv, readied-right, Ran, run-as}
+use Rattle.rules.proofs.Facts.{fourteen-keeps}
 use Rattle.rules.proofs.Fresh.{dead}
 use Rattle.rules.proofs.Sim.{ren, renF, Part, Sim, Own, sim-rename, sim-less, sim-hold, refuses-same, value-same, sim-act}
 
@@ -211,14 +211,32 @@ pub record AnsweredAs (c : Call) (o : Stepped) (p : EndlessStep) : Type 0 where
   pub value-same′ : NotSettle c → o .answer .value ≡ p .answer .value
   pub renamed : (ρ : ℕ → ℕ) × AtEndless ρ (o .heap .shape) (p .heap)
 
+-- an endless heap with v let go before a new: it takes its cell for v all the same
+abbrev lettingGo : Call → Endless → Endless
+lettingGo (New v) e = record { shape = hold (e .shape) v none; next = e .next }
+lettingGo (Do d) e = e
+lettingGo Settle e = e
+
+ran-letting-go : (c : Call) (e : Endless) → endlessRun c (lettingGo c e) ≡ endlessRun c e
+unfolding endlessRun hold
+ran-letting-go (New v) e = rw (set-set (e .shape .variables) v none (some (e .next)))
+ran-letting-go (Do d) e = refl
+ran-letting-go Settle e = refl
+
 module _ (s : Sizes) (ok : Limits s) where
-  at-for : (c : Call) (h : Heap) → Inv s h → (ρ : ℕ → ℕ) (e : Endless) → AtEndless ρ (h .shape) e → AtEndless ρ (settledFor s c h .shape) e
+  at-counting : (c : Call) (h : Heap) (ρ : ℕ → ℕ) (e : Endless) → AtEndless ρ (h .shape) e → AtEndless ρ (counting c h .shape) (lettingGo c e)
+  unfolding hold
+  at-counting (New v) h ρ e R = record { sim = sim-hold (R .sim) v none none refl; below = R .below; len = R .len }
+  at-counting (Do d) h ρ e R = R
+  at-counting Settle h ρ e R = R
+
+  at-readied : (c : Call) (h : Heap) → Inv s h → (ρ : ℕ → ℕ) (e : Endless) → AtEndless ρ (h .shape) e → AtEndless ρ (readied s c h .shape) (lettingGo c e)
   unfolding settledIf settled
-  at-for c h g ρ e R = go (wants s c h)
+  at-readied c h g ρ e R = go (wants s c h)
     where
-      go : (b : Bool) → AtEndless ρ (settledIf b s (h .shape .variables) h .shape) e
-      go true = at-settled s ok h g ρ e R
-      go false = R
+      go : (b : Bool) → AtEndless ρ (settledIf b s (counted c h) (counting c h) .shape) (lettingGo c e)
+      go true = at-settled s ok (counting c h) (counting-inv s ok c h g) ρ (lettingGo c e) (at-counting c h ρ e R)
+      go false = at-counting c h ρ e R
 
   -- a call after its settle
   did : (c : Call) (k : ℕ) (h : Heap) → Inv s h → Fits (s .m) c → check c (h .shape) ≡ 0 → (ρ : ℕ → ℕ) (e : Endless) → AtEndless ρ (h .shape) e
@@ -240,8 +258,14 @@ module _ (s : Sizes) (ok : Limits s) where
 
   ran : (c : Call) (h : Heap) → Inv s h → Fits (s .m) c → check c (h .shape) ≡ 0 → (ρ : ℕ → ℕ) (e : Endless) → AtEndless ρ (h .shape) e
       → ¬ (run s c h .answer .status ≡ 14) → AnsweredAs c (run s c h) (endlessRun c e)
-  unfolding run
-  ran c h g f d ρ e R n = let k = settledFor s c h in did c (k .freed - h .freed) k (for-inv s ok c h g) f (for-right s ok c h g d) ρ e (at-for c h g ρ e R) n
+  ran c h g f d ρ e R n = go (run-as s ok c h g)
+    where
+      go : Ran s c h → AnsweredAs c (run s c h) (endlessRun c e)
+      go (inl i) =
+          let k = readied s c h in
+          rw (i, ← ran-letting-go c e)
+          (did c (k .freed - h .freed) k (readied-inv s ok c h g) f (readied-right s ok c h g d) ρ (lettingGo c e) (at-readied c h g ρ e R) (λ j. n (ap (λ (o : Stepped). o .answer .status) i ∙ j)))
+      go (inr i) = absurd (n (ap (λ (o : Stepped). o .answer .status) i))
 
   pub step-agrees : (c : Call) (h : Heap) → Inv s h → Fits (s .m) c → (ρ : ℕ → ℕ) (e : Endless) → AtEndless ρ (h .shape) e
       → ¬ (step s c h .answer .status ≡ 14) → AnsweredAs c (step s c h) (endlessStep c e)
@@ -253,14 +277,14 @@ module _ (s : Sizes) (ok : Limits s) where
       go zero d n = ran c h g f d ρ e R n
       go (suc j) d n = record { status-same = refl; value-same′ = λ k. refl; renamed = (ρ, R) }
 
-  -- a new answered 14 leaves the endless heap as it was: its settle only frees cells
+  -- a new answered 14 leaves the endless heap as it was: nothing was freed
   pub step-14 : (c : Call) (h : Heap) → Inv s h → (ρ : ℕ → ℕ) (e : Endless) → AtEndless ρ (h .shape) e → step s c h .answer .status ≡ 14 → AtEndless ρ (step s c h .heap .shape) e
-  unfolding settled
-  step-14 c h g ρ e R i = go (call-refused s c h 13 i .1)
+  unfolding replayed
+  step-14 c h g ρ e R i = go (fourteen-keeps s ok c h g i)
     where
-      go : {A B : Type 0} → (A × (step s c h .heap ≡ h)) ⊎ (B × (step s c h .heap ≡ settled s h)) → AtEndless ρ (step s c h .heap .shape) e
-      go (inl p) = rw (p .1) R
-      go (inr p) = rw (p .1) (at-settled s ok h g ρ e R)
+      go : (step s c h .heap ≡ h) ⊎ (step s c h .heap ≡ replayed (s .cap) h) → AtEndless ρ (step s c h .heap .shape) e
+      go (inl d) = rw d R
+      go (inr d) = rw d R
 
 -- a fresh heap against an endless heap with nothing in it
 pub fresh-at : (s : Sizes) → AtEndless (λ a. a) (fresh s .shape) (endless (s .m))

@@ -17,7 +17,7 @@ use Rattle.rules.specs.declared.Sizes.{Sizes}
 use Rattle.rules.specs.Heap.{Shape, Heap, place, field, store}
 use Rattle.rules.specs.Call.{drops, Answer, unless, var, at, isCell, noFigure, refuses, check, logs, write, hold, toCell, target, act, value}
 use Rattle.rules.specs.Settle.{pick, freeCell, onPick, reclaim, replayed, settledBy, settled}
-use Rattle.rules.specs.Step.{Stepped, refused, full, noneFree, wants, settledIf, settledFor, after, takeCell, doNew, doDeed, acted, run, step, calls, unfreed, batch}
+use Rattle.rules.specs.Step.{Stepped, refused, full, noneFree, wants, counted, settledIf, settledFor, after, takeCell, doNew, doDeed, acted, run, step, calls, unfreed, batch}
 use Rattle.rules.proofs.Lists.{map-set}
 
 abbrev pub eraseF : Field → Field
@@ -256,8 +256,13 @@ wants-erase s (New v) h = refl
 wants-erase s (Do d) h = rw (logs-erase d (h .shape))
 wants-erase s Settle h = refl
 
+counted-erase : (c : Call) (h : Heap) → counted (eraseC c) (erase h) ≡ counted c h
+counted-erase (New v) h = refl
+counted-erase (Do d) h = refl
+counted-erase Settle h = refl
+
 for-erase : (s : Sizes) (c : Call) (h : Heap) → settledFor s (eraseC c) (erase h) ≡ erase (settledFor s c h)
-for-erase s c h = rw (wants-erase s c h) (settledIf-erase (wants s c h) s (h .shape .variables) h)
+for-erase s c h = rw (wants-erase s c h, counted-erase c h) (settledIf-erase (wants s c h) s (counted c h) h)
 
 run-alike : (s : Sizes) (c : Call) (h : Heap) → Alike c (run s c h) (run s (eraseC c) (erase h))
 unfolding run

@@ -2,7 +2,7 @@
 use Prim.Native.Nat.{ℕ, zero, suc, _+_, _-_, _<_, _≤_}
 use mathlib.Core.Path.{_≡_, refl, sym, ap, _∙_}
 use mathlib.Core.Logic.{_⊎_, inl, inr, _↔_}
-use mathlib.Core.Bool.{Bool, true, false, _&&_, _||_, cond, true≢false, false≢true}
+use mathlib.Core.Bool.{Bool, true, false, _&&_, _||_, cond, false≢true}
 use mathlib.Core.Option.{Option, none, some}
 use mathlib.Core.List.{List, [], _∷_}
 use native.Mathlib.Omega.{arith}
@@ -22,31 +22,30 @@ use Rattle.rules.specs.Table.{has}
 use Rattle.rules.specs.Rules.{replay}
 use Rattle.rules.specs.Heap.{Shape, Heap, place, field}
 use Rattle.rules.specs.Settle.{holds, pick, reclaim, replayed, settledBy, settled}
-use Rattle.rules.specs.Call.{Answer, InRange, Fits, AllFit, unless, var, at, isHeld, isCell, noFigure, want, refuses, check, hold}
+use Rattle.rules.specs.Call.{Answer, answer, InRange, Fits, AllFit, unless, var, at, isHeld, isCell, noFigure, want, refuses, check, hold}
 use Rattle.rules.specs.Demands.{reasons, Listed, isNew}
 use Rattle.rules.specs.Step.{Stepped, refused, settledIf, full, noneFree, takeCell, doNew, run, step, calls, batch, wants, counted, settledFor, doDeed, acted, unfreed}
 use Rattle.rules.specs.Head.{Limits}
-use Rattle.rules.specs.Invariant.{refs, live, Inv, Ended, count}
+use Rattle.rules.specs.Invariant.{refs, live, Inv, count}
 use Rattle.rules.proofs.Tables.{eqb-self}
 use Rattle.rules.proofs.Sorted.{replay-kept}
 use Rattle.rules.proofs.Cells.{lives, lives-taken, live-store-0, field-same, field-across}
-use Rattle.rules.proofs.Reclaim.{pick-least, pick-some, pick-none, reclaim-idle, reclaim-kept, reclaim-live, taken-when}
-use Rattle.rules.proofs.FreeList.{frees-none}
+use Rattle.rules.proofs.Reclaim.{pick-least, pick-some, pick-none, having, reclaim-kept, taken-when}
 use Rattle.rules.proofs.Calls.{act-lives}
-use Rattle.rules.proofs.Step.{settledBy-good, settledBy-sum, settled-done, settled-inv, taken, step-inv, counted-from-0, for-inv, for-right}
+use Rattle.rules.proofs.Step.{settledBy-good, settledBy-done, settledBy-sum, settledBy-full, none-free-settled, counting, counting-inv, readied, readied-inv, readied-right, for-readied, Ran, run-as, taken, step-inv, counted-from-0}
 
 -- ---- the turns of a settle
 
--- the heap after k turns of h's reclaiming
-unfoldable pub turns : Sizes → Heap → ℕ → Heap
-turns s h k = reclaim (s .cap) (h .shape .variables) k (replayed (s .cap) h)
+-- the heap after k turns of h's reclaiming, the holds hs counted
+unfoldable pub turns : Sizes → List (Option ℕ) → Heap → ℕ → Heap
+turns s hs h k = reclaim (s .cap) hs k (replayed (s .cap) h)
 
--- the cell a is the one that turn k takes: in ZCT, held by no variable, and the smallest such
-pub record Taking (s : Sizes) (h : Heap) (k a : ℕ) : Type 0 where
-  pub picked : pick (h .shape .variables) (turns s h k .tables .zct) ≡ some a
-  pub in-zct : has a (turns s h k .tables .zct) ≡ true
-  pub unheld : holds a (h .shape .variables) ≡ false
-  pub smallest : (b : ℕ) → has b (turns s h k .tables .zct) ≡ true → holds b (h .shape .variables) ≡ false → a ≤ b
+-- the cell a is the one that turn k takes: in ZCT, named by none of the holds, and the smallest such
+pub record Taking (s : Sizes) (hs : List (Option ℕ)) (h : Heap) (k a : ℕ) : Type 0 where
+  pub picked : pick hs (turns s hs h k .tables .zct) ≡ some a
+  pub in-zct : has a (turns s hs h k .tables .zct) ≡ true
+  pub unheld : holds a hs ≡ false
+  pub smallest : (b : ℕ) → has b (turns s hs h k .tables .zct) ≡ true → holds b hs ≡ false → a ≤ b
 
 -- ---- cells made
 
@@ -105,37 +104,30 @@ module _ (s : Sizes) where
       go true k = (λ e. refl, λ e. refl)
       go false k = (λ e. absurd (omega arith), λ e. absurd (false≢true e))
 
-  -- with no cell free after that, a settle was made
-  none-free-settled : (v : ℕ) (h : Heap) → noneFree s (settledFor s (New v) h) ≡ true → settledFor s (New v) h ≡ settledBy s (counted (New v) h) h
-  unfolding wants settledIf
-  none-free-settled v h e = go (full s 1 h) (noneFree s h) refl e
-    where
-      hs : List (Option ℕ)
-      hs = h .shape .variables
-
-      go : (p q : Bool) → noneFree s h ≡ q → noneFree s (settledIf (p || q) s hs h) ≡ true → settledIf (p || q) s hs h ≡ settledBy s hs h
-      go true q d e = refl
-      go false true d e = refl
-      go false false d e = absurd (false≢true (sym d ∙ e))
-
   pub fourteen-settled : (v : ℕ) (h : Heap) → step s (New v) h .answer .status ≡ 14 → noneFree s (settledBy s (counted (New v) h) h) ≡ true
-  fourteen-settled v h e = let f = fourteen-exactly v h .0 e in rw (none-free-settled v h f) at f
+  fourteen-settled v h e = let f = fourteen-exactly v h .0 e in rw (none-free-settled s v h f) at f
+
+  -- 14 comes after the settle that c wants, which leaves no cell free
+  pub record Fourteen (c : Call) (h : Heap) (k : ℕ) (o : Stepped) : Type 0 where
+    pub said : k ≡ 14
+    pub left : o .heap ≡ settledBy s (counted c h) h
+    pub none-free : noneFree s (settledBy s (counted c h) h) ≡ true
 
   -- a call that passed its check is refused by 14 alone, after one settle
-  run-refused : (c : Call) (h : Heap) (k : ℕ) → run s c h .answer .status ≡ suc k → (run s c h .answer .value ≡ pos 0) × ((suc k ≡ 14) × (run s c h .heap ≡ settledBy s (counted c h) h))
+  run-refused : (c : Call) (h : Heap) (k : ℕ) → run s c h .answer .status ≡ suc k → (run s c h .answer .value ≡ pos 0) × Fourteen c h (suc k) (run s c h)
   unfolding run acted doNew doDeed
   run-refused (New v) h k e = go (noneFree s (settledFor s (New v) h)) refl e
     where
       go : (q : Bool) → noneFree s (settledFor s (New v) h) ≡ q → doNew q v (settledFor s (New v) h) .answer .status ≡ suc k
-          → (doNew q v (settledFor s (New v) h) .answer .value ≡ pos 0) × ((suc k ≡ 14) × (doNew q v (settledFor s (New v) h) .heap ≡ settledBy s (counted (New v) h) h))
-      go true d e = (refl, (sym e, none-free-settled v h d))
+          → (doNew q v (settledFor s (New v) h) .answer .value ≡ pos 0) × Fourteen (New v) h (suc k) (doNew q v (settledFor s (New v) h))
+      go true d e = let m = none-free-settled s v h d in (refl, record { said = sym e; left = m; none-free = rw m at d })
       go false d e = absurd (omega arith)
   run-refused (Do d) h k e = absurd (omega arith)
   run-refused Settle h k e = absurd (omega arith)
 
   -- a call refused has value nought; by its check it leaves the heap as it was, by 14 after one settle
   abbrev pub Refused : Call → Heap → ℕ → Stepped → Type 0
-  Refused c h k o = (o .answer .value ≡ pos 0) × (((check c (h .shape) ≡ suc k) × (o .heap ≡ h)) ⊎ ((suc k ≡ 14) × (o .heap ≡ settledBy s (counted c h) h)))
+  Refused c h k o = (o .answer .value ≡ pos 0) × (((check c (h .shape) ≡ suc k) × (o .heap ≡ h)) ⊎ Fourteen c h (suc k) o)
 
   pub call-refused : (c : Call) (h : Heap) (k : ℕ) → step s c h .answer .status ≡ suc k → Refused c h k (step s c h)
   unfolding step
@@ -170,43 +162,35 @@ taken-freed v h = refl
 -- ---- over a heap with the invariant
 
 module _ (s : Sizes) (ok : Limits s) where
-  -- a settle of a settled heap changes nothing
-  pub settled-again : (h : Heap) → Ended s h → settled s h ≡ h
-  unfolding settled settledBy replayed replay
-  settled-again h g = rw (empty h (g .log-empty)) (reclaim-idle (s .cap) (h .shape .variables) (s .n) h (g .settled-all))
-    where
-      empty : (h : Heap) → h .log ≡ [] → replayed (s .cap) h ≡ h
-      empty h e =
-          ap (λ l. record { shape = h .shape; first = h .first; tables = replay (s .cap) l (h .tables); log = []; freed = h .freed }) e
-          ∙ ap (λ l. record { shape = h .shape; first = h .first; tables = h .tables; log = l; freed = h .freed }) (sym e)
+  -- what is said of the settle before a call is said of every settle: the one that the call `settle` makes counts what the variables hold,
+  -- as the one at a batch's end does, and the one made for a new counts no hold of v
 
-  -- after a settle every ZCT cell is held: all that could be freed was
-  pub frees-all : (h : Heap) → Inv s h → (a : ℕ) → has a (settled s h .tables .zct) ≡ true → holds a (h .shape .variables) ≡ true
-  frees-all h g a i = pick-none (h .shape .variables) (settled s h .tables .zct) (settled-done s ok h g .0) a i
+  -- afterwards each ZCT cell is held by one of the variables that are counted: all that could be freed was
+  pub frees-all : (c : Call) (h : Heap) → Inv s h → (a : ℕ) → has a (settledBy s (counted c h) h .tables .zct) ≡ true → holds a (counted c h) ≡ true
+  frees-all c h g a i = pick-none (counted c h) (settledBy s (counted c h) h .tables .zct) (settledBy-done s ok (counted c h) h (counting-inv s ok c h g .good)) a i
 
   -- what a turn takes
-  pub takes : (h : Heap) → Inv s h → (k a : ℕ) → pick (h .shape .variables) (turns s h k .tables .zct) ≡ some a → Taking s h k a
+  pub takes : (c : Call) (h : Heap) → Inv s h → (k a : ℕ) → pick (counted c h) (turns s (counted c h) h k .tables .zct) ≡ some a → Taking s (counted c h) h k a
   unfolding turns replayed
-  takes h g k a e =
-      let hs = h .shape .variables in
-      let z = turns s h k .tables .zct in
+  takes c h g k a e =
+      let hs = counted c h in
+      let z = turns s hs h k .tables .zct in
       let p = pick-some hs z a e in
-      let m = reclaim-kept (s .n) (s .cap) (ok .cap-least) hs k (replayed (s .cap) h) (g .good) (replay-kept (s .n) (s .cap) (ok .cap-least) (h .log) (h .tables) (g .kept) (g .log-small)) in
+      let m = reclaim-kept (s .n) (s .cap) (ok .cap-least) hs k (replayed (s .cap) h) (counting-inv s ok c h g .good) (replay-kept (s .n) (s .cap) (ok .cap-least) (h .log) (h .tables) (g .kept) (g .log-small)) in
       record { picked = e; in-zct = p .0; unheld = p .1; smallest = λ b. pick-least hs z a b (m .zct-up) e }
 
   -- a cell that a settle frees was taken at one of its turns
-  pub frees-only : (h : Heap) → Inv s h → (a : ℕ) → live (h .shape .fields) a ≡ true → live (settled s h .shape .fields) a ≡ false
-      → (k : ℕ) × ((k < s .n) × Taking s h k a)
-  unfolding settled settledBy turns replayed
-  frees-only h g a l d =
-      let r = taken-when (s .n) (s .cap) (ok .cap-least) (h .shape .variables) (replayed (s .cap) h) (g .good) a l (s .n) d in
-      (r .0, (r .1 .0, takes h g (r .0) a (r .1 .1)))
+  pub frees-only : (c : Call) (h : Heap) → Inv s h → (a : ℕ) → live (h .shape .fields) a ≡ true → live (settledBy s (counted c h) h .shape .fields) a ≡ false
+      → (k : ℕ) × ((k < s .n) × Taking s (counted c h) h k a)
+  unfolding settledBy turns replayed
+  frees-only c h g a l d =
+      let r = taken-when (s .n) (s .cap) (ok .cap-least) (counted c h) (replayed (s .cap) h) (counting-inv s ok c h g .good) a l (s .n) d in
+      (r .0, (r .1 .0, takes c h g (r .0) a (r .1 .1)))
 
-  -- after a settle a count below the cap is the number of pointers
-  pub exact-below-cap : (h : Heap) → Inv s h → (b : ℕ) → live (settled s h .shape .fields) b ≡ true
-      → (count (settled s h .tables) b ≡ s .cap) ⊎ (count (settled s h .tables) b ≡ refs (settled s h .shape .fields) b)
-  unfolding settled
-  exact-below-cap h g b l = settledBy-good s ok (h .shape .variables) h (g .good) .counted b .exact l
+  -- a count below the cap is the number of pointers
+  pub exact-below-cap : (c : Call) (h : Heap) → Inv s h → (b : ℕ) → live (settledBy s (counted c h) h .shape .fields) b ≡ true
+      → (count (settledBy s (counted c h) h .tables) b ≡ s .cap) ⊎ (count (settledBy s (counted c h) h .tables) b ≡ refs (settledBy s (counted c h) h .shape .fields) b)
+  exact-below-cap c h g b l = settledBy-good s ok (counted c h) h (counting-inv s ok c h g .good) .counted b .exact l
 
   -- ---- cells in use and cells freed
 
@@ -218,12 +202,12 @@ module _ (s : Sizes) (ok : Limits s) where
   unfolding settled
   settled-sum h g = settledBy-sum s ok (h .shape .variables) h (g .good)
 
-  for-sum : (c : Call) (h : Heap) → Inv s h → Sum (settledFor s c h) ≡ Sum h
+  readied-sum : (c : Call) (h : Heap) → Inv s h → Sum (readied s c h) ≡ Sum h
   unfolding settledIf
-  for-sum c h g = go (wants s c h)
+  readied-sum c h g = go (wants s c h)
     where
-      go : (b : Bool) → Sum (settledIf b s (h .shape .variables) h) ≡ Sum h
-      go true = settledBy-sum s ok (h .shape .variables) h (g .good)
+      go : (b : Bool) → Sum (settledIf b s (counted c h) (counting c h)) ≡ Sum h
+      go true = settledBy-sum s ok (counted c h) (counting c h) (counting-inv s ok c h g .good)
       go false = refl
 
   -- new takes one cell into use
@@ -256,23 +240,31 @@ module _ (s : Sizes) (ok : Limits s) where
   acted-sum (Do d) k h g f e = plus-0 _ _ (doDeed-sum d h g f e)
   acted-sum Settle k h g f e = plus-0 _ _ refl
 
+  -- a call refused makes none
+  none-made : (c : Call) (h : Heap) (j : ℕ) → Sum h ≡ Sum h + made c (answer (suc j) (pos 0))
+  none-made c h j = rw (ne-eqb (suc j) 0 (omega arith)) (go (isNew c))
+    where
+      go : (q : Bool) → Sum h ≡ Sum h + cond q 0 0
+      go true = plus-0 (Sum h) (Sum h) refl
+      go false = plus-0 (Sum h) (Sum h) refl
+
   run-sum : (c : Call) (h : Heap) → Inv s h → Fits (s .m) c → check c (h .shape) ≡ 0 → Sum (run s c h .heap) ≡ Sum h + made c (run s c h .answer)
-  unfolding run
-  run-sum c h g f e =
-      let k = settledFor s c h in
-      rw (← for-sum c h g) (acted-sum c (k .freed - h .freed) k (for-inv s ok c h g) f (for-right s ok c h g e))
+  unfolding replayed
+  run-sum c h g f e = go (run-as s ok c h g)
+    where
+      go : Ran s c h → Sum (run s c h .heap) ≡ Sum h + made c (run s c h .answer)
+      go (inl d) =
+          let k = readied s c h in
+          rw (d, ← readied-sum c h g) (acted-sum c (k .freed - h .freed) k (readied-inv s ok c h g) f (readied-right s ok c h g e))
+      go (inr d) = rw d (none-made c h 13)
 
   pub step-sum : (c : Call) (h : Heap) → Inv s h → Fits (s .m) c → Sum (step s c h .heap) ≡ Sum h + made c (step s c h .answer)
   unfolding step
   step-sum c h g f = go (check c (h .shape)) refl
     where
-      none-made : (q : Bool) → Sum h ≡ Sum h + cond q 0 0
-      none-made true = plus-0 (Sum h) (Sum h) refl
-      none-made false = plus-0 (Sum h) (Sum h) refl
-
       go : (k : ℕ) → check c (h .shape) ≡ k → Sum (unless k (refused h) (run s c h) .heap) ≡ Sum h + made c (unless k (refused h) (run s c h) .answer)
       go zero e = run-sum c h g f e
-      go (suc j) e = rw (ne-eqb (suc j) 0 (omega arith)) (none-made (isNew c))
+      go (suc j) e = none-made c h j
 
   pub calls-sum : (cs : List Call) (h : Heap) → Inv s h → AllFit (s .m) cs → Sum (calls s cs h .heap) ≡ Sum h + madeIn cs (calls s cs h .answers)
   unfolding calls
@@ -292,29 +284,29 @@ module _ (s : Sizes) (ok : Limits s) where
 
   -- ---- new
 
-  -- a settle frees, so if no cell is free after it none was before
-  none-free-before : (h : Heap) → Inv s h → noneFree s (settled s h) ≡ true → noneFree s h ≡ true
-  unfolding noneFree settled settledBy replayed place
-  none-free-before h g e = go (noneFree s h) refl
-    where
-      go : (q : Bool) → noneFree s h ≡ q → noneFree s h ≡ true
-      go true d = d
-      go false d =
-          let T = taken s ok h g d in
-          let i = settled-inv s ok h g in
-          let b : h .first < s .n = let k = T .there in let l = g .good .len in omega arith in
-          let l = frees-none (s .n) (settled s h .shape .fields) (settled s h .first) (i .good .len) (i .frees) e (h .first) b in
-          let m = reclaim-live (s .n) (s .cap) (ok .cap-least) (h .shape .variables) (s .n) (replayed (s .cap) h) (g .good) (h .first) l in
-          absurd (true≢false (sym m ∙ T .was-free))
-
-  -- new says 14 exactly where a settle leaves no cell free
-  pub fourteen-full : (v : ℕ) (h : Heap) → Inv s h → (step s (New v) h .answer .status ≡ 14) ↔ (noneFree s (settled s h) ≡ true)
-  unfolding settled wants settledIf
+  -- new says 14 exactly where a settle that counts every variable but v leaves no cell free
+  pub fourteen-full : (v : ℕ) (h : Heap) → Inv s h → (step s (New v) h .answer .status ≡ 14) ↔ (noneFree s (settledBy s (counted (New v) h) h) ≡ true)
+  unfolding wants settledIf
   fourteen-full v h g = (fourteen-settled s v h, λ e. fourteen-exactly s v h .1 (go (full s 1 h) e))
     where
-      go : (p : Bool) → noneFree s (settled s h) ≡ true → noneFree s (settledIf (p || noneFree s h) s (h .shape .variables) h) ≡ true
+      hs : List (Option ℕ)
+      hs = counted (New v) h
+
+      -- that settle frees none, so none was free before it
+      full-before : noneFree s (settledBy s hs h) ≡ true → noneFree s h ≡ true
+      full-before e = unfold noneFree replayed in sym (ap (noneFree s) (settledBy-full s ok hs h (counting-inv s ok (New v) h g .good) e)) ∙ e
+
+      go : (p : Bool) → noneFree s (settledBy s hs h) ≡ true → noneFree s (settledIf (p || noneFree s h) s hs h) ≡ true
       go true e = e
-      go false e = rw (none-free-before h g e) e
+      go false e = rw (full-before e) e
+
+  -- and then nothing was freed: v, its cell, both fields and every other cell are as they were
+  pub fourteen-keeps : (c : Call) (h : Heap) → Inv s h → step s c h .answer .status ≡ 14 → (step s c h .heap ≡ h) ⊎ (step s c h .heap ≡ replayed (s .cap) h)
+  fourteen-keeps c h g e = go (call-refused s c h 13 e .1)
+    where
+      go : {A : Type 0} → (A × (step s c h .heap ≡ h)) ⊎ Fourteen s c h 14 (step s c h) → (step s c h .heap ≡ h) ⊎ (step s c h .heap ≡ replayed (s .cap) h)
+      go (inl p) = inl (p .1)
+      go (inr f) = inr (f .left ∙ settledBy-full s ok (counted c h) h (counting-inv s ok c h g .good) (f .none-free))
 
   -- k is a heap after a new took its cell for v from the heap h
   pub record Handed (v : ℕ) (h k : Heap) : Type 0 where
@@ -339,11 +331,21 @@ module _ (s : Sizes) (ok : Limits s) where
         field-1 = field-across (h .shape .fields) (h .first) 0 1 Nothing (omega arith) (omega arith) (omega arith) ∙ T .blank-1;
       }
 
-  -- a new answered 0 takes the first free cell: a cell freed before is handed out again
+  -- a new answered 0 takes the first free cell as it is after its settle: a cell freed before is handed out again
   pub handed-out-again : (v : ℕ) → v < s .m → (h : Heap) → Inv s h → step s (New v) h .answer .status ≡ 0 → Handed v (settledFor s (New v) h) (step s (New v) h .heap)
-  unfolding step run acted doNew
-  handed-out-again v i h g e = go (noneFree s (settledFor s (New v) h)) refl e
+  unfolding step acted doNew
+  handed-out-again v i h g e = go (run-as s ok (New v) h g)
     where
-      go : (q : Bool) → noneFree s (settledFor s (New v) h) ≡ q → doNew q v (settledFor s (New v) h) .answer .status ≡ 0 → Handed v (settledFor s (New v) h) (doNew q v (settledFor s (New v) h) .heap)
-      go true d e = absurd (omega arith)
-      go false d e = handed v i (settledFor s (New v) h) (for-inv s ok (New v) h g) d
+      k : Heap
+      k = readied s (New v) h
+
+      same-handed : {vs : List (Option ℕ)} {x : Heap} → Handed v k x → Handed v (having vs k) x
+      same-handed H = record { below = H .below; was-free = H .was-free; now-used = H .now-used; held = H .held; field-0 = H .field-0; field-1 = H .field-1 }
+
+      by : (q : Bool) → noneFree s k ≡ q → doNew q v k .answer .status ≡ 0 → Handed v k (doNew q v k .heap)
+      by true d e = absurd (omega arith)
+      by false d e = handed v i k (readied-inv s ok (New v) h g) d
+
+      go : Ran s (New v) h → Handed v (settledFor s (New v) h) (run s (New v) h .heap)
+      go (inl d) = rw (for-readied s (New v) h, d) (same-handed (by (noneFree s k) refl (ap (λ (o : Stepped). o .answer .status) (sym d) ∙ e)))
+      go (inr d) = absurd (let f = ap (λ (o : Stepped). o .answer .status) (sym d) ∙ e in omega arith)

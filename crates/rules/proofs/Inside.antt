@@ -50,6 +50,12 @@ module _ (s : Sizes) where
   calls-end [] h = refl
   calls-end (c ∷ cs) h = calls-end cs (step s c h .heap)
 
+  -- a batch goes on from there
+  pub calls-after : (cs ds : List Call) (h : Heap) → calls s (cs ++ ds) h .heap ≡ calls s ds (heapAfter s cs h) .heap
+  unfolding calls heapAfter
+  calls-after [] ds h = refl
+  calls-after (c ∷ cs) ds h = calls-after cs ds (step s c h .heap)
+
   -- the status of the call after them, in the answers row
   pub status-at : (cs ds : List Call) (c : Call) (h : Heap) (rest : List ℤ)
       → getD (answerWords (calls s (cs ++ c ∷ ds) h .answers) ++ rest) (2 * length cs) (negsuc 0) ≡ pos (step s c (heapAfter s cs h) .answer .status)
@@ -122,7 +128,7 @@ by-kind (Figure x) n = record { nought = (omega arith, omega arith); eleven = om
 by-kind (Cell a) n = record { nought = (omega arith, omega arith); eleven = omega arith; thirteen = (omega arith, omega arith); fifteen = (omega arith, omega arith) }
 by-kind (Free a) n = absurd (n a refl)
 
-pos-same : (j k : ℕ) → pos j ≡ pos k → j ≡ k
+pub pos-same : (j k : ℕ) → pos j ≡ pos k → j ≡ k
 pos-same j k e = cc
 
 not-neg : (j k : ℕ) → pos j ≡ negsuc k → ⊥

@@ -15,6 +15,7 @@ pub mod Step
 pub mod Fresh
 pub mod Facts
 pub mod Inside
+pub mod LetGo
 pub mod Positions
 pub mod Bridge
 pub mod Roundtrip

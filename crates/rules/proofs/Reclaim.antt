@@ -8,13 +8,13 @@ use native.Mathlib.Omega.{arith}
 use lib.Dec.{eqb}
 use borrow.Author.Tests.{eqb-true, eq-eqb}
 use Rattle.rules.specs.Table.{has, Ascending}
-use Rattle.rules.specs.Heap.{Heap}
+use Rattle.rules.specs.Heap.{Heap, place}
 use Rattle.rules.specs.Settle.{holds, pick, onPick, freeCell, reclaim}
 use Rattle.rules.specs.Whole.{Kept}
 use Rattle.rules.specs.Invariant.{live, Good, Done}
 use Rattle.rules.proofs.Sorted.{all-has}
-use Rattle.rules.proofs.Cells.{Plain1, Figures, lives}
-use Rattle.rules.proofs.Turn.{turn-live, turn-stays, turn-less, turn-good, turn-kept, turn-plain, turn-figures}
+use Rattle.rules.proofs.Cells.{Plain1, Figures, lives, place-in-1}
+use Rattle.rules.proofs.Turn.{turn-was, turn-live, turn-less, turn-good, turn-kept, turn-plain, turn-figures}
 
 -- ---- what `pick` finds
 
@@ -61,11 +61,25 @@ reclaim-leaves f cap hs e (suc k) h = go (λ a. reclaim-leaves f cap hs e k (fre
     go ih none q = rw q
     go ih (some a) q = rw q (ih a)
 
--- with nothing to take, nothing is done
-pub reclaim-idle : (cap : ℕ) (hs : List (Option ℕ)) (k : ℕ) (h : Heap) → Done hs h → reclaim cap hs k h ≡ h
+-- h with the variables vs
+abbrev pub having : List (Option ℕ) → Heap → Heap
+having vs h = record { shape = record { fields = h .shape .fields; variables = vs }; first = h .first; tables = h .tables; log = h .log; freed = h .freed }
+
+-- reclaiming looks at the holds that are counted, not at the variables
+pub reclaim-having : (cap : ℕ) (hs vs : List (Option ℕ)) (k : ℕ) (h : Heap) → reclaim cap hs k (having vs h) ≡ having vs (reclaim cap hs k h)
 unfolding reclaim
-reclaim-idle cap hs zero h d = refl
-reclaim-idle cap hs (suc k) h d = rw d
+reclaim-having cap hs vs zero h = refl
+reclaim-having cap hs vs (suc k) h = go (pick hs (h .tables .zct)) (reclaim-having cap hs vs k)
+  where
+    turn : Heap → Option ℕ → Heap
+    turn h o = onPick o h (λ a. reclaim cap hs k (freeCell cap a h))
+
+    free-having : (a : ℕ) → freeCell cap a (having vs h) ≡ having vs (freeCell cap a h)
+    free-having a = unfold freeCell in refl
+
+    go : (o : Option ℕ) → ((h : Heap) → reclaim cap hs k (having vs h) ≡ having vs (reclaim cap hs k h)) → turn (having vs h) o ≡ having vs (turn h o)
+    go none ih = refl
+    go (some a) ih = ap (reclaim cap hs k) (free-having a) ∙ ih (freeCell cap a h)
 
 -- one turn more, seen from its end
 pub reclaim-last : (cap : ℕ) (hs : List (Option ℕ)) (k : ℕ) (h : Heap)
@@ -144,12 +158,21 @@ module _ (n cap : ℕ) (cap3 : 3 ≤ cap) (hs : List (Option ℕ)) where
   pub reclaim-kept : (k : ℕ) (h : Heap) → G h → Kept n cap (h .tables) → Kept n cap (reclaim cap hs k h .tables)
   reclaim-kept = reclaim-keeps (λ h. Kept n cap (h .tables)) (turn-kept n cap cap3 hs)
 
-  -- reclaiming takes no cell into use
-  pub reclaim-live : (k : ℕ) (h : Heap) → G h → (b : ℕ) → live (reclaim cap hs k h .shape .fields) b ≡ true → live (h .shape .fields) b ≡ true
-  reclaim-live k h g =
-      reclaim-keeps (λ h′. (b : ℕ) → live (h′ .shape .fields) b ≡ true → live (h .shape .fields) b ≡ true)
-      (λ j g a i u p b l. p b (turn-stays n cap cap3 hs j g a i u b l .1))
-      k h g (λ b l. l)
+  -- if no cell is free afterwards, nothing was taken: a cell that is freed is the first free one
+  pub reclaim-full : (k : ℕ) (h : Heap) → G h → reclaim cap hs k h .first ≡ n → reclaim cap hs k h ≡ h
+  unfolding reclaim
+  reclaim-full zero h g e = refl
+  reclaim-full (suc k) h g e = go (pick hs (h .tables .zct)) refl e
+    where
+      freed-below : (h : Heap) → G h → (a : ℕ) → has a (h .tables .zct) ≡ true → holds a hs ≡ false → freeCell cap a h .first < n
+      freed-below h g a i u = unfold freeCell place in let l = place-in-1 n a (h .shape .fields) (g .len) (turn-was n cap cap3 hs h g a i u) in let e = g .len in omega arith
+
+      go : (o : Option ℕ) → pick hs (h .tables .zct) ≡ o → onPick o h (λ a. reclaim cap hs k (freeCell cap a h)) .first ≡ n → onPick o h (λ a. reclaim cap hs k (freeCell cap a h)) ≡ h
+      go none d e = refl
+      go (some a) d e =
+          let m = pick-some hs (h .tables .zct) a d in
+          let b = reclaim-keeps (λ x. x .first < n) (λ x q b i u p. freed-below x q b i u) k (freeCell cap a h) (turn-good n cap cap3 hs h g a (m .0) (m .1)) (freed-below h g a (m .0) (m .1)) in
+          absurd (omega arith)
 
   -- a cell that is freed was taken at one of the turns
   pub taken-when : (h : Heap) → G h → (a : ℕ) → live (h .shape .fields) a ≡ true → (k : ℕ) → live (reclaim cap hs k h .shape .fields) a ≡ false

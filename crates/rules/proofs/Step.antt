@@ -2,12 +2,14 @@
 use Prim.Native.Nat.{ℕ, zero, suc, _+_, _-_, _<_, _≤_}
 use mathlib.Core.Path.{_≡_, refl, sym, ap, _∙_}
 use mathlib.Core.Logic.{_⊎_, inl, inr}
-use mathlib.Core.Bool.{Bool, true, false, cond, true≢false}
-use mathlib.Core.Option.{Option, some}
+use mathlib.Core.Bool.{Bool, true, false, cond, _||_, true≢false, false≢true}
+use mathlib.Core.Option.{Option, none, some}
 use mathlib.Core.List.{List, [], _∷_}
 use native.Mathlib.Omega.{arith}
 use lib.Dec.{eqb}
-use lib.ListN.{length, length-set, length-append}
+use lib.IntN.{pos}
+use lib.ListN.{length, set, length-set, length-append}
+use lib.Seq.{set-set}
 use borrow.Author.Tests.{eqb-true, eqb-false, ltb-false, le-ltb}
 use Rattle.rules.specs.declared.Field.the-variants.{Nothing}
 use Rattle.rules.specs.declared.Deed.{Deed}
@@ -19,7 +21,7 @@ use Rattle.rules.specs.Heap.{Tables, allocates, Shape, Heap, place, stor
 use Rattle.rules.specs.Rules.{apply, replay}
 use Rattle.rules.specs.Settle.{holds, freeCell, replayed, settledBy, settled}
 use Rattle.rules.specs.Call.{var, check, logs, hold, Fits, AllFit, InRange, unless, refuses}
-use Rattle.rules.specs.Step.{refused, settledIf, full, noneFree, takeCell, doNew, run, step, calls, batch, needs, wants, settledFor, doDeed, acted, unfreed}
+use Rattle.rules.specs.Step.{done, refused, settledIf, full, noneFree, takeCell, doNew, run, step, calls, batch, needs, wants, counted, settledFor, doDeed, acted, unfreed}
 use Rattle.rules.specs.Whole.{Kept}
 use Rattle.rules.proofs.Tests.{not-first}
 use Rattle.rules.specs.Head.{Limits}
@@ -27,7 +29,7 @@ use Rattle.rules.specs.Invariant.{refs, live, view, Counted, Good, Frees
 use Rattle.rules.proofs.Tables.{view-own, view-other, change}
 use Rattle.rules.proofs.Sorted.{replay-kept, small-append, replay-append}
 use Rattle.rules.proofs.Cells.{live-store-0, refs-store, length-store, lives, lives-le, Plain1, Figures, plain-store, plain-store-0, figures-store}
-use Rattle.rules.proofs.Reclaim.{reclaim-good, reclaim-done, reclaim-leaves, reclaim-sum, reclaim-plain, reclaim-figures, reclaim-kept}
+use Rattle.rules.proofs.Reclaim.{having, reclaim-having, reclaim-full, reclaim-good, reclaim-done, reclaim-leaves, reclaim-sum, reclaim-plain, reclaim-figures, reclaim-kept}
 use Rattle.rules.proofs.FreeList.{Taken, frees-store, frees-take, reclaim-frees}
 use Rattle.rules.proofs.Calls.{holds-set, deed-good, act-keeps, act-variables, logs-small, logs-long, store-live}
 
@@ -59,6 +61,12 @@ pub settledIf-variables : (b : Bool) (s : Sizes) (hs : List (Option ℕ)) (h : H
 unfolding settledIf
 settledIf-variables true s hs h = settledBy-variables s hs h
 settledIf-variables false s hs h = refl
+
+-- the heap's own variables take no part in a settle
+pub settledIf-having : (b : Bool) (s : Sizes) (hs vs : List (Option ℕ)) (h : Heap) → settledIf b s hs (having vs h) ≡ having vs (settledIf b s hs h)
+unfolding settledIf settledBy replayed
+settledIf-having true s hs vs h = reclaim-having (s .cap) hs vs (s .n) (replayed (s .cap) h)
+settledIf-having false s hs vs h = refl
 
 module _ (s : Sizes) (ok : Limits s) (hs : List (Option ℕ)) (h : Heap)
     (g : Good (s .n) (s .cap) (h .shape .fields) hs (replay (s .cap) (h .log) (h .tables))) where
@@ -93,6 +101,48 @@ module _ (s : Sizes) (ok : Limits s) (hs : List (Option ℕ)) (h : Heap)
   unfolding settledBy replayed
   settledBy-figures = reclaim-figures (s .n) (s .cap) (ok .cap-least) hs (s .n) (replayed (s .cap) h) g
 
+  -- with no cell free after it, a settle freed none: the log is replayed, and that is all
+  pub settledBy-full : noneFree s (settledBy s hs h) ≡ true → settledBy s hs h ≡ replayed (s .cap) h
+  unfolding noneFree settledBy replayed
+  settledBy-full e = reclaim-full (s .n) (s .cap) (ok .cap-least) hs (s .n) (replayed (s .cap) h) g (eqb-true _ _ e)
+
+-- h with the holds for its variables that the settle before a call counts: before a new, v let go
+abbrev pub counting : Call → Heap → Heap
+counting c h = having (counted c h) h
+
+-- the heap, so counted, in which a call is then done
+abbrev pub readied : Sizes → Call → Heap → Heap
+readied s c h = settledIf (wants s c h) s (counted c h) (counting c h)
+
+-- but for the variables it is the settled heap
+pub for-readied : (s : Sizes) (c : Call) (h : Heap) → settledFor s c h ≡ having (h .shape .variables) (readied s c h)
+for-readied s c h = settledIf-having (wants s c h) s (counted c h) (h .shape .variables) (counting c h)
+
+-- what v held before is nothing to the taking
+taken-readied : (s : Sizes) (v : ℕ) (h : Heap) → takeCell v (settledFor s (New v) h) ≡ takeCell v (readied s (New v) h)
+unfolding takeCell hold
+taken-readied s v h = ap (takeCell v) (for-readied s (New v) h) ∙ taken-having (h .shape .variables) (readied s (New v) h) (settledIf-variables (wants s (New v) h) s (counted (New v) h) (counting (New v) h))
+  where
+    taken-having : (vs : List (Option ℕ)) (x : Heap) → x .shape .variables ≡ set vs v none → takeCell v (having vs x) ≡ takeCell v x
+    taken-having vs x e = rw (e, set-set vs v none (some (x .first)))
+
+-- what a call that passed its check comes to
+abbrev pub Ran : Sizes → Call → Heap → Type 0
+Ran s c h = (run s c h ≡ acted s c (readied s c h .freed - h .freed) (readied s c h)) ⊎ (run s c h ≡ refused (replayed (s .cap) h) 14)
+
+-- with no cell free when a new is done, a settle was made for it
+pub none-free-settled : (s : Sizes) (v : ℕ) (h : Heap) → noneFree s (settledFor s (New v) h) ≡ true → settledFor s (New v) h ≡ settledBy s (counted (New v) h) h
+unfolding wants settledIf
+none-free-settled s v h e = go (full s 1 h) (noneFree s h) refl e
+  where
+    hs : List (Option ℕ)
+    hs = counted (New v) h
+
+    go : (p q : Bool) → noneFree s h ≡ q → noneFree s (settledIf (p || q) s hs h) ≡ true → settledIf (p || q) s hs h ≡ settledBy s hs h
+    go true q d e = refl
+    go false true d e = refl
+    go false false d e = absurd (false≢true (sym d ∙ e))
+
 module _ (s : Sizes) (ok : Limits s) where
   -- ---- settle
 
@@ -122,13 +172,34 @@ module _ (s : Sizes) (ok : Limits s) where
 
   -- ---- the settle before a call
 
-  pub settledIf-inv : (b : Bool) (h : Heap) → Inv s h → Inv s (settledIf b s (h .shape .variables) h)
+  settledIf-inv : (b : Bool) (h : Heap) → Inv s h → Inv s (settledIf b s (h .shape .variables) h)
   unfolding settledIf settled
   settledIf-inv true h g = settled-inv h g
   settledIf-inv false h g = g
 
-  pub for-inv : (c : Call) (h : Heap) → Inv s h → Inv s (settledFor s c h)
-  for-inv c h g = settledIf-inv (wants s c h) h g
+  -- with v let go a heap keeps its invariant
+  pub counting-inv : (c : Call) (h : Heap) → Inv s h → Inv s (counting c h)
+  counting-inv (New v) h g =
+      record {
+        good = record { len = g .good .len; counted = g .good .counted; held = λ b i. still b (holds-set (h .shape .variables) v none b i) };
+        frees = g .frees;
+        kept = g .kept;
+        plain-1 = g .plain-1;
+        figures = g .figures;
+        variables-long = length-set (h .shape .variables) v none ∙ g .variables-long;
+        log-room = g .log-room;
+        log-small = g .log-small;
+      }
+    where
+      still : (b : ℕ) → (none ≡ some b) ⊎ (holds b (h .shape .variables) ≡ true) → live (h .shape .fields) b ≡ true
+      still b (inl e) = absurd (let z : _≡_ {A = ℕ} 0 1 = cc in omega arith)
+      still b (inr i) = g .good .held b i
+  counting-inv (Do d) h g = g
+  counting-inv Settle h g = g
+
+  -- between the settle for a new and the taking v may name a freed cell: the invariant is that of the heap with v let go
+  pub readied-inv : (c : Call) (h : Heap) → Inv s h → Inv s (readied s c h)
+  readied-inv c h g = settledIf-inv (wants s c h) (counting c h) (counting-inv c h g)
 
   -- the log has room for a call's entries
   pub for-room : (c : Call) (h : Heap) → Inv s h → length (settledFor s c h .log) + needs c (settledFor s c h .shape) ≤ s .l
@@ -136,14 +207,14 @@ module _ (s : Sizes) (ok : Limits s) where
   for-room c h g = go (wants s c h) refl
     where
       hs : List (Option ℕ)
-      hs = h .shape .variables
+      hs = counted c h
 
       go : (b : Bool) → wants s c h ≡ b → length (settledIf b s hs h .log) + needs c (settledIf b s hs h .shape) ≤ s .l
       go true e = let l = ok .l-least in let k = needs-two c (settledBy s hs h .shape) in rw (settledBy-log s hs h) (omega arith)
       go false e = ltb-false (s .l) (length (h .log) + needs c (h .shape)) (room-now s c h e)
 
   -- before a deed that needs no entry there is no settle
-  unsettled : (d : Deed) (h : Heap) → Inv s h → logs d (h .shape) ≡ [] → settledFor s (Do d) h ≡ h
+  pub unsettled : (d : Deed) (h : Heap) → Inv s h → logs d (h .shape) ≡ [] → settledFor s (Do d) h ≡ h
   unfolding wants full settledIf
   unsettled d h g e = rw (e, le-ltb (s .l) (length (h .log) + 0) (let r = g .log-room in omega arith))
 
@@ -160,6 +231,17 @@ module _ (s : Sizes) (ok : Limits s) where
   for-right (Do (Read v f)) h g e = rw (unsettled (Read v f) h g refl) e
   for-right (Do (Same v w)) h g e = rw (unsettled (Same v w) h g refl) e
   for-right Settle h g e = refl
+
+  -- both in the heap that is readied: for a deed that is the settled one
+  readied-room : (c : Call) (h : Heap) → Inv s h → length (readied s c h .log) + needs c (readied s c h .shape) ≤ s .l
+  readied-room (New v) h g = rw (for-readied s (New v) h) at (for-room (New v) h g)
+  readied-room (Do d) h g = for-room (Do d) h g
+  readied-room Settle h g = for-room Settle h g
+
+  pub readied-right : (c : Call) (h : Heap) → Inv s h → check c (h .shape) ≡ 0 → check c (readied s c h .shape) ≡ 0
+  readied-right (New v) h g e = refl
+  readied-right (Do d) h g e = for-right (Do d) h g e
+  readied-right Settle h g e = refl
 
   -- ---- the deeds
 
@@ -250,6 +332,22 @@ module _ (s : Sizes) (ok : Limits s) where
 
   -- ---- a call
 
+  -- a new that finds no cell free after its settle: nothing was freed
+  new-full : (v : ℕ) (h : Heap) → Inv s h → noneFree s (settledFor s (New v) h) ≡ true → settledFor s (New v) h ≡ replayed (s .cap) h
+  new-full v h g e = let d = none-free-settled s v h e in d ∙ settledBy-full s ok (counted (New v) h) h (counting-inv (New v) h g .good) (rw d at e)
+
+  -- a call that passed its check is done in the heap that is readied for it; but a new may answer 14, and has then freed nothing
+  pub run-as : (c : Call) (h : Heap) → Inv s h → Ran s c h
+  unfolding run acted doNew noneFree
+  run-as (New v) h g = go (noneFree s (settledFor s (New v) h)) refl
+    where
+      go : (q : Bool) → noneFree s (settledFor s (New v) h) ≡ q
+          → (doNew q v (settledFor s (New v) h) ≡ doNew (noneFree s (readied s (New v) h)) v (readied s (New v) h)) ⊎ (doNew q v (settledFor s (New v) h) ≡ refused (replayed (s .cap) h) 14)
+      go true d = inr (ap (λ (x : Heap). refused x 14) (new-full v h g d))
+      go false d = inl (rw (rw (for-readied s (New v) h) at d) (ap (λ (x : Heap). done x (pos 0)) (taken-readied s v h)))
+  run-as (Do d) h g = inl refl
+  run-as Settle h g = inl refl
+
   pub doNew-inv : (v : ℕ) (h : Heap) → Inv s h → length (h .log) + 1 ≤ s .l → Inv s (doNew (noneFree s h) v h .heap)
   unfolding doNew
   doNew-inv v h g r = at (noneFree s h) refl
@@ -264,9 +362,27 @@ module _ (s : Sizes) (ok : Limits s) where
   acted-inv (Do d) k h g f e r = doDeed-inv h g d f e r
   acted-inv Settle k h g f e r = g
 
+  -- the log replayed and emptied, and nothing freed
+  replayed-inv : (h : Heap) → Inv s h → Inv s (replayed (s .cap) h)
+  unfolding replayed replay
+  replayed-inv h g =
+      record {
+        good = g .good;
+        frees = g .frees;
+        kept = replay-kept (s .n) (s .cap) (ok .cap-least) (h .log) (h .tables) (g .kept) (g .log-small);
+        plain-1 = g .plain-1;
+        figures = g .figures;
+        variables-long = g .variables-long;
+        log-room = omega arith;
+        log-small = tt;
+      }
+
   pub run-inv : (c : Call) (h : Heap) → Inv s h → Fits (s .m) c → check c (h .shape) ≡ 0 → Inv s (run s c h .heap)
-  unfolding run
-  run-inv c h g f e = acted-inv c (settledFor s c h .freed - h .freed) (settledFor s c h) (for-inv c h g) f (for-right c h g e) (for-room c h g)
+  run-inv c h g f e = go (run-as c h g)
+    where
+      go : Ran s c h → Inv s (run s c h .heap)
+      go (inl d) = rw d (acted-inv c (readied s c h .freed - h .freed) (readied s c h) (readied-inv c h g) f (readied-right c h g e) (readied-room c h g))
+      go (inr d) = rw d (replayed-inv h g)
 
   pub step-inv : (c : Call) (h : Heap) → Inv s h → Fits (s .m) c → Inv s (step s c h .heap)
   unfolding step

@@ -1,20 +1,21 @@
 -- Each worthless heap breaks a named fact of a demand. Assumes nothing.
 use Prim.Native.Nat.{ℕ}
-use mathlib.Core.Path.{_≡_, refl, sym, _∙_}
+use mathlib.Core.Path.{_≡_, refl, sym, ap, _∙_}
 use mathlib.Core.Bool.{true, false, false≢true}
 use mathlib.Core.Option.{some}
-use mathlib.Core.List.{List, [], _∷_}
+use mathlib.Core.List.{List, [], _∷_, _++_}
 use native.Mathlib.Omega.{arith}
 use lib.IntN.{ℤ, pos, negsuc}
 use lib.ListN.{getD}
 use Rattle.rules.specs.declared.Head.{Head}
 use Rattle.rules.specs.declared.Deed.the-variants.{Clear, Link, Put, Follow, Read}
+use Rattle.rules.specs.declared.Call.{Call}
 use Rattle.rules.specs.declared.Call.the-variants.{New, Do}
 use Rattle.rules.specs.Head.{freshHead, sized}
 use Rattle.rules.specs.Sound.{Sound, Sized, Word, heldAmong}
 use Rattle.rules.specs.Decide.{sound?, sized?, dec-word}
 use Rattle.rules.specs.Demands.{Demand1, Demand2, Demand3, AllListed, Finds, freeCells}
-use Rattle.rules.specs.Worthless.{saysFour, saysFourteen, answersNought, freesNothing, freesOnce, madeUpCount, thirteenForNothing, fifteenForCell, fifteenForEleven, fifteenForTwelve}
+use Rattle.rules.specs.Worthless.{saysFour, saysFourteen, answersNought, freesNothing, freesOnce, madeUpCount, thirteenForNothing, fifteenForCell, fifteenForEleven, fifteenForTwelve, countsOwnHold, countsForRoom, countsNoHold, clearsAtFourteen}
 use Rattle.rules.proofs.Tests.{sized-true, sound-true}
 use Rattle.rules.specs.Rows as R
 use Rattle.rules.specs.Rules as U
@@ -75,9 +76,42 @@ linkRead₀ = C.wordsOf (Do (Link 0 0 0) ∷ Do (Read 0 0) ∷ [])
 abbrev follow₀ : List ℤ
 follow₀ = C.wordsOf (Do (Follow 0 0 0) ∷ [])
 
+-- a heap of one cell that two variables hold
+abbrev h₂ : Head
+h₂ = record { sizes = sized 1 2 2 3; free = 1; zct = 1; mrt = 0 }
+
+abbrev r₂ : R.Lent
+r₂ = R.lent (0 ∷ 0 ∷ []) (pos 0 ∷ pos 0 ∷ []) (pos 0 ∷ pos 0 ∷ []) (0 ∷ []) (0 ∷ []) (0 ∷ []) (0 ∷ 0 ∷ 0 ∷ 0 ∷ []) (0 ∷ [])
+
+abbrev new₀ : List ℤ
+new₀ = C.wordsOf (New 0 ∷ [])
+
+-- a fresh heap of three cells and one variable: the third new finds the log full and a cell free
+abbrev h₃ : Head
+h₃ = freshHead (sized 3 1 2 3)
+
+abbrev r₃ : R.Lent
+r₃ = R.rowsOf (sized 3 1 2 3) (T.fresh (sized 3 1 2 3))
+
+abbrev news : List Call
+news = New 0 ∷ New 0 ∷ []
+
+abbrev threeNews : List ℤ
+threeNews = C.wordsOf (news ++ New 0 ∷ [])
+
+abbrev clearedNews : List ℤ
+clearedNews = C.wordsOf (news ++ Do (Clear 0) ∷ New 0 ∷ [])
+
+abbrev eight : List ℤ
+eight = pos 0 ∷ pos 0 ∷ six
+
 -- what they give, by computation
 record Computed : Type 0 where
-  says-14 : getD (saysFourteen .batch h₀ r₀ (C.wordsOf (New 0 ∷ [])) two .answers) 0 (negsuc 0) ≡ pos 14
+  new-call : C.callsIn 1 new₀ ≡ some (New 0 ∷ [])
+  clear-call : C.callsIn 1 clear₀ ≡ some (Do (Clear 0) ∷ [])
+  fourteen-accepted : saysFourteen .batch h₀ r₀ new₀ two .outcome .status ≡ 0
+  says-14 : getD (saysFourteen .batch h₀ r₀ new₀ two .answers) 0 (negsuc 0) ≡ pos 14
+  fourteen-free : saysFourteen .batch h₀ r₀ clear₀ two .outcome .head .free ≡ 0
   fresh-accepted : answersNought .fresh (sized 1 1 2 3) r₀ .outcome .status ≡ 0
   reads-0 : N.AsEndless (N.but14 (N.saidIn 1 (seven ∷ []) (N.runOf answersNought (sized 1 1 2 3) r₀ (seven ∷ [])))) (E.endless 1) → pos 0 ≡ pos 7
   nothing-accepted : freesNothing .batch h₁ r₁ clear₀ two .outcome .status ≡ 0
@@ -106,12 +140,35 @@ record Computed : Type 0 where
   follow-call : C.callsIn 1 follow₀ ≡ some (Do (Follow 0 0 0) ∷ [])
   follow-done : fifteenForTwelve .batch h₁ r₁ follow₀ two .outcome .status ≡ 0
   follow-15 : AllListed (N.said (Do (Follow 0 0 0) ∷ []) (fifteenForTwelve .batch h₁ r₁ follow₀ two .answers)) → false ≡ true
+  own-accepted : countsOwnHold .batch h₁ r₁ new₀ two .outcome .status ≡ 0
+  own-14 : getD (countsOwnHold .batch h₁ r₁ new₀ two .answers) 0 (negsuc 0) ≡ pos 14
+  own-free : countsOwnHold .batch h₁ r₁ clear₀ two .outcome .head .free ≡ 0
+  two-new : C.callsIn 2 new₀ ≡ some (New 0 ∷ [])
+  two-clear : C.callsIn 2 clear₀ ≡ some (Do (Clear 0) ∷ [])
+  two-none : C.callsIn 2 [] ≡ some []
+  no-hold-accepted : countsNoHold .batch h₂ r₂ new₀ two .outcome .status ≡ 0
+  no-hold-0 : getD (countsNoHold .batch h₂ r₂ new₀ two .answers) 0 (negsuc 0) ≡ pos 0
+  no-hold-full : countsNoHold .batch h₂ r₂ clear₀ two .outcome .head .free ≡ 1
+  room-new : C.callsIn 1 threeNews ≡ some (news ++ New 0 ∷ [])
+  room-clear : C.callsIn 1 clearedNews ≡ some (news ++ Do (Clear 0) ∷ New 0 ∷ [])
+  room-accepted : countsForRoom .batch h₃ r₃ clearedNews eight .outcome .status ≡ 0
+  room-0 : getD (countsForRoom .batch h₃ r₃ threeNews eight .answers) 4 (negsuc 0) ≡ pos 0
+  room-holds-0 : countsForRoom .batch h₃ r₃ threeNews eight .rows .variables ≡ pos 0 ∷ []
+  room-holds-1 : countsForRoom .batch h₃ r₃ clearedNews eight .rows .variables ≡ pos 1 ∷ []
+  clearing-accepted : clearsAtFourteen .batch h₂ r₂ new₀ two .outcome .status ≡ 0
+  clearing-14 : getD (clearsAtFourteen .batch h₂ r₂ new₀ two .answers) 0 (negsuc 0) ≡ pos 14
+  clearing-none : clearsAtFourteen .batch h₂ r₂ new₀ two .rows .variables ≡ negsuc 0 ∷ pos 0 ∷ []
+  clearing-held : clearsAtFourteen .batch h₂ r₂ [] two .rows .variables ≡ pos 0 ∷ pos 0 ∷ []
 
 computed : Computed
 unfolding F.isSized F.isSound sound? sized? dec-word Word F.batchOf F.checkCalls F.checkAnswers F.checkSound F.accepted F.answered R.rowsOf R.headOf R.heapOf C.callOf C.callsOf C.callsIn U.enterZct U.leaveZct U.enterMrt U.leaveMrt U.onCreate U.onDestroy U.apply U.replay H.place H.field H.store S.freeCell S.reclaim S.replayed S.settledBy S.settled C.var C.at C.refuses C.logs C.write C.hold C.act C.value T.full T.noneFree T.wants T.settledIf T.takeCell T.doNew T.doDeed T.acted T.run T.step T.calls T.batch T.freeFrom T.fresh N.runFrom N.runOf N.saidIn E.endless E.endlessRun E.endlessStep F.freshOf
 computed =
     record {
+      new-call = refl;
+      clear-call = refl;
+      fourteen-accepted = refl;
       says-14 = refl;
+      fourteen-free = refl;
       fresh-accepted = refl;
       reads-0 = λ a. a .2 .2 .1 tt;
       nothing-accepted = refl;
@@ -140,6 +197,25 @@ computed =
       follow-call = refl;
       follow-done = refl;
       follow-15 = λ a. a .0 .0;
+      own-accepted = refl;
+      own-14 = refl;
+      own-free = refl;
+      two-new = refl;
+      two-clear = refl;
+      two-none = refl;
+      no-hold-accepted = refl;
+      no-hold-0 = refl;
+      no-hold-full = refl;
+      room-new = refl;
+      room-clear = refl;
+      room-accepted = refl;
+      room-0 = refl;
+      room-holds-0 = refl;
+      room-holds-1 = refl;
+      clearing-accepted = refl;
+      clearing-14 = refl;
+      clearing-none = refl;
+      clearing-held = refl;
     }
 
 -- 4 to all: an empty batch on a fresh heap, which is sound
@@ -149,7 +225,8 @@ worthless-says-4 d = d .refused-4 h₀ r₀ [] [] .only refl .2 sound₀
 -- 14 to all: a new in a fresh heap
 pub worthless-says-14 : Demand2 saysFourteen → ⊥
 worthless-says-14 d =
-    let e : _≡_ {A = ℕ} 0 1 = d .fourteen-exactly h₀ r₀ 0 two sized₀ sound₀ (omega arith) (omega arith) .0 (computed .says-14) in
+    let e = d .fourteen-exactly h₀ r₀ clear₀ new₀ two [] [] 0 (computed .clear-call) (computed .new-call) (computed .fourteen-accepted) .0 (computed .says-14) in
+    let f = computed .fourteen-free in
     omega arith
 
 -- 0 always: a figure 7 put and read
@@ -208,3 +285,34 @@ worthless-fifteen-for-eleven d =
 pub worthless-fifteen-for-twelve : Demand1 fifteenForTwelve → ⊥
 worthless-fifteen-for-twelve d =
     false≢true (computed .follow-15 (d .refused-11-to-15 h₁ r₁ follow₀ two (Do (Follow 0 0 0) ∷ []) (computed .follow-call) (computed .follow-done)))
+
+-- ---- the settle for a new
+
+-- v's own hold counted: a new into the variable that holds the last cell
+pub worthless-counts-own-hold : Demand2 countsOwnHold → ⊥
+worthless-counts-own-hold d =
+    let e = d .fourteen-exactly h₁ r₁ clear₀ new₀ two [] [] 0 (computed .clear-call) (computed .new-call) (computed .own-accepted) .0 (computed .own-14) in
+    let f = computed .own-free in
+    omega arith
+
+-- another variable's hold left out: it holds the last cell too
+pub worthless-counts-no-hold : Demand2 countsNoHold → ⊥
+worthless-counts-no-hold d =
+    let e = d .fourteen-exactly h₂ r₂ clear₀ new₀ two [] [] 0 (computed .two-clear) (computed .two-new) (computed .no-hold-accepted) .1 (computed .no-hold-full) in
+    not-both 0 14 (computed .no-hold-0) e (λ z. omega arith)
+
+-- v's own hold counted for room in the log: the third new takes cell 0, and after clear v cell 1
+pub worthless-counts-for-room : Demand2 countsForRoom → ⊥
+worthless-counts-for-room d =
+    let e = d .new-lets-go h₃ r₃ clearedNews threeNews eight news [] 0 (computed .room-clear) (computed .room-new) (computed .room-accepted) (computed .room-0) in
+    let f = sym (computed .room-holds-0) ∙ ap (λ (r : R.Lent). r .variables) (e .same-rows) ∙ computed .room-holds-1 in
+    let z : _≡_ {A = ℕ} 0 1 = cc in
+    omega arith
+
+-- v cleared at 14
+pub worthless-clears-at-14 : Demand2 clearsAtFourteen → ⊥
+worthless-clears-at-14 d =
+    let e = d .fourteen-keeps h₂ r₂ [] new₀ two [] 0 (computed .two-none) (computed .two-new) (computed .clearing-accepted) (computed .clearing-14) in
+    let f = sym (computed .clearing-none) ∙ ap (λ (r : R.Lent). r .variables) (e .same-rows) ∙ computed .clearing-held in
+    let z : _≡_ {A = ℕ} 0 1 = cc in
+    omega arith

@@ -133,8 +133,8 @@ unfoldable pub table : List Case
 table =
     -- P1 empty batch, fresh: 0, none freed, heap still fresh
     case 4 [] (total 0 ∷ stillFresh ∷ [])
-    -- P2 n 1: new 0, new 0. Statuses 0, 14 (and none freed)
-    ∷ case 1 (New 0 ∷ New 0 ∷ []) (statuses (0 ∷ 14 ∷ []) ∷ total 0 ∷ [])
+    -- P2 n 1: new 0, new 0. Statuses 0, 0; total freed 1
+    ∷ case 1 (New 0 ∷ New 0 ∷ []) (statuses (0 ∷ 0 ∷ []) ∷ total 1 ∷ [])
     -- P3 n 1: new 0, clear 0, new 0. Statuses 0, 0, 0; total freed 1
     ∷ case 1 (New 0 ∷ Do (Clear 0) ∷ New 0 ∷ []) (statuses (0 ∷ 0 ∷ 0 ∷ []) ∷ total 1 ∷ [])
     -- P4 new 0, link 0 0 0, clear 0, settle: frees 0

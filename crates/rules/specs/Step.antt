@@ -5,7 +5,7 @@ use mathlib.Core.Option.{Option, none, some}
 use mathlib.Core.List.{List, [], _∷_, _++_}
 use lib.Dec.{eqb, ltb}
 use lib.IntN.{ℤ, pos}
-use lib.ListN.{length, replicate}
+use lib.ListN.{length, set, replicate}
 use Rattle.rules.specs.declared.Field.{Field}
 use Rattle.rules.specs.declared.Field.the-variants.{Nothing, Figure, Cell, Free}
 use Rattle.rules.specs.declared.Deed.{Deed}
@@ -51,9 +51,11 @@ wants s (New v) h = full s (needs (New v) (h .shape)) h || noneFree s h
 wants s (Do d) h = full s (needs (Do d) (h .shape)) h
 wants s Settle h = true
 
--- the holds that the settle before a call counts: what the variables hold (the settle made for a new still counts v's old hold)
+-- the holds that the settle before a call counts: what the variables hold, but the settle made for a new does not count v's own hold
 abbrev pub counted : Call → Heap → List (Option ℕ)
-counted c h = h .shape .variables
+counted (New v) h = set (h .shape .variables) v none
+counted (Do d) h = h .shape .variables
+counted Settle h = h .shape .variables
 
 -- a settle that counts the holds hs, made where b says so
 unfoldable pub settledIf : Bool → Sizes → List (Option ℕ) → Heap → Heap

@@ -1,17 +1,19 @@
 -- Heaps that cheat, written down: each breaks a named fact of a demand (proofs/Worthless). Assumes nothing.
-use Prim.Native.Nat.{ℕ, suc}
+use Prim.Native.Nat.{ℕ, suc, _-_}
 use mathlib.Core.Bool.{cond}
 use mathlib.Core.Option.{Option, none, some}
 use mathlib.Core.List.{List, [], _∷_, map}
 use lib.Dec.{eqb}
 use lib.IntN.{ℤ, pos}
 use Rattle.rules.specs.declared.Head.{Head}
+use Rattle.rules.specs.declared.Deed.the-variants.{Clear}
 use Rattle.rules.specs.declared.Call.{Call}
+use Rattle.rules.specs.declared.Call.the-variants.{New, Do, Settle}
 use Rattle.rules.specs.declared.Sizes.{Sizes}
 use Rattle.rules.specs.Heap.{Heap}
-use Rattle.rules.specs.Settle.{replayed}
-use Rattle.rules.specs.Call.{Answer, answer, callsIn}
-use Rattle.rules.specs.Step.{Result, step, batch}
+use Rattle.rules.specs.Settle.{replayed, settled}
+use Rattle.rules.specs.Call.{Answer, answer, unless, check, callsIn}
+use Rattle.rules.specs.Step.{Stepped, refused, noneFree, wants, counted, settledIf, acted, Result, step, batch}
 use Rattle.rules.specs.Rows.{Lent, rowsOf, headOf, heapOf}
 use Rattle.rules.specs.Refusals.{Batched, outcome, leavesWith, cleared, answered, freshOf, auditOf, batchOf}
 use Rattle.rules.specs.Run.{Heaps}
@@ -42,31 +44,31 @@ saysFourteen = withBatch (changed (λ o. leavesWith (o .outcome) (o .rows) (each
 abbrev pub answersNought : Heaps
 answersNought = withBatch (changed (λ o. leavesWith (o .outcome) (o .rows) (eachAnswer (λ s. s) (λ x. pos 0) (o .answers))))
 
--- the calls, with another settle at the end
-abbrev pub callsEnding : (Sizes → Heap → Heap) → Sizes → List Call → Heap → Result
-callsEnding f s [] h = record { heap = f s h; answers = [] }
-callsEnding f s (c ∷ cs) h =
-    let o = step s c h in
-    let r = callsEnding f s cs (o .heap) in
+-- the calls, with another step and another settle at the end
+abbrev pub callsBy : (Sizes → Call → Heap → Stepped) → (Sizes → Heap → Heap) → Sizes → List Call → Heap → Result
+callsBy d f s [] h = record { heap = f s h; answers = [] }
+callsBy d f s (c ∷ cs) h =
+    let o = d s c h in
+    let r = callsBy d f s cs (o .heap) in
     record { heap = r .heap; answers = o .answer ∷ r .answers }
 
-abbrev pub endingCalls : (Sizes → Heap → Heap) → Head → Lent → Option (List Call) → List ℤ → Batched → Batched
-endingCalls f h r none row o = o
-endingCalls f h r (some cs) row o =
+abbrev pub leftBy : (Sizes → Call → Heap → Stepped) → (Sizes → Heap → Heap) → Head → Lent → Option (List Call) → List ℤ → Batched → Batched
+leftBy d f h r none row o = o
+leftBy d f h r (some cs) row o =
     let s = h .sizes in
-    let b = callsEnding f s cs (heapOf h r) in
+    let b = callsBy d f s cs (heapOf h r) in
     leavesWith (outcome 0 (headOf s (b .heap)) (b .heap .freed)) (rowsOf s (b .heap)) (answered (b .answers) row)
 
-abbrev pub ending : (Sizes → Heap → Heap) → Head → Lent → List ℤ → List ℤ → Batched
-ending f h r ws row = changed (endingCalls f h r (callsIn (h .sizes .m) ws) row) h r ws row
+abbrev pub by : (Sizes → Call → Heap → Stepped) → (Sizes → Heap → Heap) → Head → Lent → List ℤ → List ℤ → Batched
+by d f h r ws row = changed (leftBy d f h r (callsIn (h .sizes .m) ws) row) h r ws row
 
 -- the settle frees nothing: it only replays
 abbrev pub freesNothing : Heaps
-freesNothing = withBatch (ending (λ s h. replayed (s .cap) h))
+freesNothing = withBatch (by step (λ s h. replayed (s .cap) h))
 
 -- frees at the first settle, when no variable and no table knows a cell yet, and then pretends
 abbrev pub freesOnce : Heaps
-freesOnce = withBatch (λ h r ws row. cond (eqb (h .zct) 0) (batchOf h r ws row) (ending (λ s k. replayed (s .cap) k) h r ws row))
+freesOnce = withBatch (λ h r ws row. cond (eqb (h .zct) 0) (batchOf h r ws row) (by step (λ s k. replayed (s .cap) k) h r ws row))
 
 -- makes up its count of freed cells
 abbrev pub madeUpCount : Heaps
@@ -97,3 +99,42 @@ fifteenForEleven = saysFor 15 11
 -- a follow that answers 15
 abbrev pub fifteenForTwelve : Heaps
 fifteenForTwelve = saysFor 15 12
+
+-- ---- the settle for a new
+
+-- the step, whose settle counts other holds
+abbrev pub stepCounting : (Sizes → Call → Heap → List (Option ℕ)) → Sizes → Call → Heap → Stepped
+stepCounting f s c h =
+    let k = settledIf (wants s c h) s (f s c h) h in
+    unless (check c (h .shape)) (refused h) (acted s c (k .freed - h .freed) k)
+
+-- v's own hold is counted, as before request A1
+abbrev pub countsOwnHold : Heaps
+countsOwnHold = withBatch (by (stepCounting (λ s c h. h .shape .variables)) settled)
+
+-- it is counted where the settle is for room in the log
+abbrev pub butForRoom : Sizes → Call → Heap → List (Option ℕ)
+butForRoom s c h = cond (noneFree s h) (counted c h) (h .shape .variables)
+
+abbrev pub countsForRoom : Heaps
+countsForRoom = withBatch (by (stepCounting butForRoom) settled)
+
+-- a new counts no variable's hold
+abbrev pub noneForNew : Sizes → Call → Heap → List (Option ℕ)
+noneForNew s (New v) h = []
+noneForNew s (Do d) h = counted (Do d) h
+noneForNew s Settle h = counted Settle h
+
+abbrev pub countsNoHold : Heaps
+countsNoHold = withBatch (by (stepCounting noneForNew) settled)
+
+-- v is cleared at 14
+abbrev pub stepClearing : Sizes → Call → Heap → Stepped
+stepClearing s (New v) h =
+    let o = step s (New v) h in
+    cond (eqb (o .answer .status) 14) (refused (step s (Do (Clear v)) (o .heap) .heap) 14) o
+stepClearing s (Do d) h = step s (Do d) h
+stepClearing s Settle h = step s Settle h
+
+abbrev pub clearsAtFourteen : Heaps
+clearsAtFourteen = withBatch (by stepClearing settled)

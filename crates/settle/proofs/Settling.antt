@@ -1,12 +1,15 @@
 -- Laws of a settle on all rows, and how a caller meets and uses its contract. Assumes nothing.
-use mathlib.Core.Path.{_≡_, refl, ap, _∙_}
+use mathlib.Core.Path.{_≡_, refl, sym, ap, _∙_}
 use mathlib.Core.Bool.{Bool, true, false}
-use mathlib.Core.Option.{Option}
+use mathlib.Core.Option.{Option, none}
 use mathlib.Core.List.{List, map}
-use Prim.Native.Nat.{ℕ, _+_, _≤_}
+use Prim.Native.Nat.{ℕ, _+_, _≤_, _<_}
 use native.Mathlib.Omega.{arith}
-use lib.ListN.{length, replicate, length-replicate}
-use lib.IntN.{ℤ}
+use lib.ListN.{length, getD, set, replicate, length-replicate}
+use lib.Seq.{set-getD, set-set}
+use lib.IntN.{ℤ, pos, negsuc}
+use Rattle.rules.specs.declared.Call.{Call}
+use Rattle.rules.specs.declared.Call.the-variants.{New, Do, Settle}
 use Rattle.rules.specs.declared.Used.{Used}
 use Rattle.rules.specs.declared.State.{State}
 use Rattle.rules.specs.declared.Sizes.{Sizes}
@@ -14,15 +17,17 @@ use Rattle.rules.specs.Field.{variableOf}
 use Rattle.rules.specs.Rules.{replay}
 use Rattle.rules.specs.Heap.{Heap}
 use Rattle.rules.specs.Settle.{replayed, settledBy, settled}
+use Rattle.rules.specs.Call.{Fits}
 use Rattle.rules.specs.Step.{settledIf}
 use Rattle.rules.specs.Rows.{TableRows, HeapRows, Lent, heapRows}
 use Rattle.rules.specs.Whole.{Ready, Rows, Whole}
+use Rattle.rules.proofs.Lists.{map-set}
 use Rattle.rules.proofs.Step.{settledBy-log, settledBy-variables}
 use Rattle.cells.specs.Marks.{Marks}
 use Rattle.cells.proofs.Logging.{logged-none}
 use Rattle.reclaim.specs.Reclaiming.{Reclaimable, Reclaims}
 use Rattle.settle.specs.Replaying.{Replays}
-use Rattle.settle.specs.Settling.{holding, Settleable, Settled, Settles, RoomMade, MakesRoom}
+use Rattle.settle.specs.Settling.{holding, Settleable, Settled, Settles, Roomable, RoomMade, MakesRoom}
 
 -- where the batch stands after a replay
 abbrev emptied : State → Used → State
@@ -91,16 +96,50 @@ pub settled-whole : {s : Sizes} {r : Lent} {at o : State} {h : Heap} → Settled
 unfolding settled
 settled-whole S = S .whole
 
+-- a row of variables with v let go
+let-go : {xs : List ℤ} (vs : List (Option ℕ)) (v : ℕ) → xs ≡ map variableOf vs → set xs v (negsuc 0) ≡ map variableOf (set vs v none)
+let-go vs v e = rw e (sym (map-set variableOf v none vs))
+
 -- a caller whose variables' row is the heap's can settle
 pub settleable : {s : Sizes} {r : Lent} {at : State} {h : Heap} → Whole s r at h → at .freed ≤ 1000000 → Settleable s r at
 settleable {r = r} {h = h} W few = record { heap = h; own = r .variables; holds = h .shape .variables; whole = W; counted = W .variables-are; few = few }
 
--- ---- a settle where one is to be made
+-- ---- the settle before a call
 
-pub room-as-is : {s : Sizes} {r : Lent} {at : State} {make : Bool} → make ≡ false → MakesRoom make s r at r at
+-- where none is made the rows stay
+pub room-as-is : (c : Call) {make : Bool} {s : Sizes} {r : Lent} {at : State} → make ≡ false → MakesRoom c make s r at r at
 unfolding settledIf
-room-as-is e own hs h W c = rw e (record { whole = W; grows = omega arith; few = omega arith; work-is = refl })
+room-as-is c e h W = rw e (record { whole = W; grows = omega arith; few = omega arith; work-is = refl })
 
-pub room-made : {make : Bool} {s : Sizes} {hs : List (Option ℕ)} {r r′ : Lent} {at o : State} {h : Heap} → make ≡ true → Settled s hs r′ at h o → RoomMade make s hs r at h r′ o
+room-made : {make : Bool} {s : Sizes} {hs : List (Option ℕ)} {r r′ : Lent} {at o : State} {h : Heap} → make ≡ true → Settled s hs r′ at h o → RoomMade make s hs r at h r′ o
 unfolding settledIf
 room-made e S = rw e (record { whole = S .whole; grows = S .grows; few = S .few; work-is = S .work-zero })
+
+-- the other rows, with these variables
+abbrev variabled : List ℤ → HeapRows → List ℕ → List ℕ → Lent
+variabled vs r log work = record { kinds = r .kinds; values = r .values; variables = vs; tables = r .tables; log = log; work = work }
+
+module _ {make : Bool} {s : Sizes} {r : Lent} {at o : State} {r′ : HeapRows} {log work : List ℕ} (e : make ≡ true) where
+  -- before a call that is no new, a settle by the row of variables as it is
+  pub room-by-all : (c : Call) → ((v : ℕ) → c ≡ New v → ⊥) → Settles s r at (variabled (r .variables) r′ log work) o → MakesRoom c make s r at (variabled (r .variables) r′ log work) o
+  room-by-all (New v) n S h W = absurd (n v refl)
+  room-by-all (Do d) n S h W = room-made e (S (r .variables) (h .shape .variables) h W (W .variables-are))
+  room-by-all Settle n S h W = room-made e (S (r .variables) (h .shape .variables) h W (W .variables-are))
+
+  -- before a new, by the row with v let go, and v put back after it
+  pub room-by-others : (c : Call) {v : ℕ} {x : ℤ} → c ≡ New v → x ≡ getD (r .variables) v (pos 0)
+      → Settles s (holding (set (r .variables) v (negsuc 0)) r) at (variabled (set (r .variables) v (negsuc 0)) r′ log work) o
+      → MakesRoom c make s r at (variabled (set (set (r .variables) v (negsuc 0)) v x) r′ log work) o
+  room-by-others c {v} {x} n d S h W =
+      rw (n, set-set (r .variables) v (negsuc 0) x, d, set-getD (r .variables) v (pos 0))
+      (room-made e (S (r .variables) (set (h .shape .variables) v none) h W (let-go (h .shape .variables) v (W .variables-are))))
+
+-- what a settle needs then
+pub settleable-others : (c : Call) {v : ℕ} {s : Sizes} {r : Lent} {at : State} → c ≡ New v → Roomable c s r at → Settleable s (holding (set (r .variables) v (negsuc 0)) r) at
+settleable-others c {v} {r = r} n R =
+    let vs = R .heap .shape .variables in
+    record { heap = R .heap; own = r .variables; holds = set vs v none; whole = R .whole; counted = let-go vs v (R .whole .variables-are); few = R .few }
+
+-- a new's variable is there
+pub fits-new : (c : Call) {v m : ℕ} → c ≡ New v → Fits m c → v < m
+fits-new c n f = rw n at f

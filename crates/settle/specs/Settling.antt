@@ -4,14 +4,16 @@ use mathlib.Core.Path.{_≡_}
 use mathlib.Core.Bool.{Bool, cond}
 use mathlib.Core.Option.{Option}
 use mathlib.Core.List.{List, map}
-use lib.ListN.{replicate}
+use lib.ListN.{length, replicate}
 use lib.IntN.{ℤ}
+use Rattle.rules.specs.declared.Call.{Call}
 use Rattle.rules.specs.declared.Sizes.{Sizes}
 use Rattle.rules.specs.declared.State.{State}
 use Rattle.rules.specs.Field.{variableOf}
 use Rattle.rules.specs.Heap.{Heap}
 use Rattle.rules.specs.Settle.{settledBy}
-use Rattle.rules.specs.Step.{settledIf}
+use Rattle.rules.specs.Call.{Fits}
+use Rattle.rules.specs.Step.{counted, settledIf}
 use Rattle.rules.specs.Rows.{Lent}
 use Rattle.rules.specs.Whole.{Whole}
 
@@ -39,14 +41,20 @@ pub record Settled (s : Sizes) (hs : List (Option ℕ)) (r : Lent) (at : State) 
 abbrev pub Settles : Sizes → Lent → State → Lent → State → Type 0
 Settles s r at r′ o = (own : List ℤ) (hs : List (Option ℕ)) (h : Heap) → Whole s (holding own r) at h → r .variables ≡ map variableOf hs → Settled s hs (holding own r′) at h o
 
--- all rows are h, after a settle that counts hs where make says so; the work row is zero where one was made, else as it was
+-- all rows are some heap, and a settle can be made before this call
+pub record Roomable (c : Call) (s : Sizes) (r : Lent) (at : State) : Type 0 where
+  pub heap : Heap
+  pub whole : Whole s r at heap
+  pub fits : Fits (length (r .variables)) c
+  pub few : at .freed ≤ 1000000
+
+-- all rows are h, after the settle that counts the holds hs where make says so; the work row is zero where one was made, else as it was
 pub record RoomMade (make : Bool) (s : Sizes) (hs : List (Option ℕ)) (r : Lent) (at : State) (h : Heap) (r′ : Lent) (o : State) : Type 0 where
   pub whole : Whole s r′ o (settledIf make s hs h)
   pub grows : at .freed ≤ o .freed
   pub few : o .freed ≤ at .freed + s .n
   pub work-is : r′ .work ≡ cond make (replicate (s .n) 0) (r .work)
 
--- rows that are a heap are that heap, after such a settle where make says so
-abbrev pub MakesRoom : Bool → Sizes → Lent → State → Lent → State → Type 0
-MakesRoom make s r at r′ o =
-    (own : List ℤ) (hs : List (Option ℕ)) (h : Heap) → Whole s (holding own r) at h → r .variables ≡ map variableOf hs → RoomMade make s hs (holding own r) at h (holding own r′) o
+-- rows that are a heap are that heap, where make says so after a settle that counts what a settle before this call counts
+abbrev pub MakesRoom : Call → Bool → Sizes → Lent → State → Lent → State → Type 0
+MakesRoom c make s r at r′ o = (h : Heap) → Whole s r at h → RoomMade make s (counted c h) r at h r′ o

@@ -6,11 +6,12 @@ ghost use Rattle.rules.specs.Lending.{tablesNow, tableEntries, tableExits, rows
 ghost use Rattle.tables.specs.Row.{Tabled, TablesBy};
 ghost use Rattle.cells.specs.Log.{transaction};
 ghost use Rattle.settle.specs.Replaying.{Replayable, Replays};
-ghost use Rattle.settle.specs.Settling.{Settleable, Settles, MakesRoom};
+ghost use Rattle.settle.specs.Settling.{Settleable, Settles, Roomable, MakesRoom};
 use cells::clear;
 use cells::entry_at;
 use cells::mark_held;
 use reclaim::reclaim;
+use rules::Call;
 use rules::Sizes;
 use rules::State;
 use rules::Used;
@@ -100,12 +101,13 @@ pub fn settle(
     r
 }
 
-// A settle where one is to be made.
-pub fn settle_if(
+// The settle before a call, where one is to be made. It counts what the variables hold; for a new, v is let go while it lasts.
+pub fn settle_for(
+    call: Call,
     make: bool,
     kinds: &mut [u8],
     values: &mut [i32],
-    variables: &[i32],
+    variables: &mut [i32],
     zct: &mut [u32],
     mrt: &mut [u32],
     counts: &mut [u32],
@@ -114,10 +116,13 @@ pub fn settle_if(
     at: State,
     sizes: Sizes,
 ) -> State
-    requires { ⌜ Settleable sizes (rowsNow kinds values variables zct mrt counts log work) at ⌝ }
-    ensures { λ r. ⌜ MakesRoom make sizes (entries kinds values variables zct mrt counts log work) at (exits kinds values variables zct mrt counts log work) r ⌝ }
+    requires { ⌜ Roomable call sizes (rowsNow kinds values variables zct mrt counts log work) at ⌝ }
+    ensures { λ r. ⌜ MakesRoom call make sizes (entries kinds values variables zct mrt counts log work) at (exits kinds values variables zct mrt counts log work) r ⌝ }
 {
-    if make {
+    if !make {
+        return at;
+    }
+    let Call::New(v) = call else {
         return settle(
             kinds,
             values,
@@ -130,6 +135,21 @@ pub fn settle_if(
             at,
             sizes,
         );
-    }
-    at
+    };
+    let own = variables[v];
+    variables[v] = -1;
+    let room = settle(
+        kinds,
+        values,
+        variables,
+        zct,
+        mrt,
+        counts,
+        log,
+        work,
+        at,
+        sizes,
+    );
+    variables[v] = own;
+    room
 }

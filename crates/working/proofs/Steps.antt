@@ -1,6 +1,6 @@
 -- A call as the code works it is the call of the rules. Assumes nothing.
 use Prim.Native.Nat.{ℕ, zero, suc, _+_, _-_, _*_, _≤_, _<_}
-use mathlib.Core.Path.{_≡_, refl, sym, _∙_, subst}
+use mathlib.Core.Path.{_≡_, refl, sym, ap, _∙_, subst}
 use mathlib.Core.Logic.{_⊎_, inl, inr}
 use mathlib.Core.Bool.{Bool, true, false, _||_}
 use mathlib.Core.Option.{Option, some}
@@ -16,18 +16,19 @@ use Rattle.rules.specs.declared.Sizes.{Sizes}
 use Rattle.rules.specs.declared.State.{State}
 use Rattle.rules.specs.Heap.{Shape, Heap}
 use Rattle.rules.specs.Call.{Fits, check}
-use Rattle.rules.specs.Step.{Stepped, refused, needs, full, noneFree, wants, settledIf, takeCell, doNew, doDeed, acted, run, step}
+use Rattle.rules.specs.Step.{Stepped, refused, needs, full, noneFree, wants, counted, settledIf, takeCell, doNew, doDeed, acted, run, step}
 use Rattle.rules.specs.Rows.{HeapRows, CallRows, Lent, beside}
+use Rattle.rules.specs.Whole.{Whole}
 use Rattle.rules.specs.Invariant.{Inv}
 use Rattle.rules.proofs.Calls.{call-fits}
-use Rattle.rules.proofs.Step.{settledIf-inv, step-inv, for-room, for-right}
-use Rattle.rules.proofs.Facts.{check-reason, call-refused}
+use Rattle.rules.proofs.Step.{settledIf-variables, step-inv, for-room, for-right}
+use Rattle.rules.proofs.Facts.{check-reason, Fourteen, call-refused}
 use Rattle.cells.proofs.Storing.{cell-lengths}
 use Rattle.words.specs.Words.{decodedAs, callAt}
 use Rattle.before.specs.Seen.{Shown, Reaches}
 use Rattle.calls.specs.Doing.{Able, Does}
 use Rattle.calls.proofs.Arms.{shown-of, able}
-use Rattle.settle.specs.Settling.{RoomMade, MakesRoom}
+use Rattle.settle.specs.Settling.{Roomable, RoomMade, MakesRoom}
 use Rattle.working.specs.Working.{Standing, Answered}
 use Rattle.words.specs.declared.Decoded.{Decoded}
 use Rattle.words.specs.declared.Decoded.the-variants.{Is, Bad}
@@ -48,8 +49,8 @@ acted-freed s Settle k h = refl
 
 module _ (s : Sizes) (h : Heap) (c : Call) where
   -- a call that passed its check, from the test for its settle and the cells that this freed
-  step-worked : {make : Bool} {k : ℕ} → check c (h .shape) ≡ 0 → make ≡ wants s c h → settledIf make s (h .shape .variables) h .freed - h .freed ≡ k
-      → step s c h ≡ acted s c k (settledIf make s (h .shape .variables) h)
+  step-worked : {make : Bool} {k : ℕ} → check c (h .shape) ≡ 0 → make ≡ wants s c h → settledIf make s (counted c h) h .freed - h .freed ≡ k
+      → step s c h ≡ acted s c k (settledIf make s (counted c h) h)
   unfolding step run
   step-worked e w n = rw (e, ← w, n)
 
@@ -77,11 +78,15 @@ settles-as s h c d len first k x e f g j y = let j′ : k ≡ needs d (h .shape)
 
 -- ---- on rows
 
+-- the row of variables has m words
+as-many : {s : Sizes} {r : Lent} {at : State} {h : Heap} → Whole s r at h → length (h .shape .variables) ≡ s .m → length (r .variables) ≡ s .m
+as-many W e = rw (W .variables-are) (simp length-map e)
+
 module _ {s : Sizes} {r : Lent} {at : State} {h : Heap} (S : Standing s r at h) where
   pub reaches : (c : Call) → Fits (s .m) c → Reaches (s .n) (r .kinds) (r .values) (r .variables) c
   reaches c f =
       let l = cell-lengths (S .whole .rows .cells) in
-      let m : length (r .variables) ≡ s .m = rw (S .whole .variables-are) (simp length-map (S .inv .variables-long)) in
+      let m = as-many (S .whole) (S .inv .variables-long) in
       record { kinds-long = l .0; values-long = l .1; fits = rw m f }
 
   pub few : (at .len ≤ 1024) × (at .len ≡ length (h .log))
@@ -97,20 +102,21 @@ module _ {s : Sizes} {r : Lent} {at : State} {h : Heap} (S : Standing s r at h) 
       rw (step-refused s h c k (sym e) n)
       (record { standing = S; status = refl; value = v; few = omega arith })
 
--- the settle before a call takes no freed cell back
-pub grown : {make : Bool} {s : Sizes} {r : Lent} {at o : State} {h : Heap} {r′ : HeapRows} {log work : List ℕ} → Standing s r at h
-    → MakesRoom make s r at (record { kinds = r′ .kinds; values = r′ .values; variables = r .variables; tables = r′ .tables; log = log; work = work }) o → at .freed ≤ o .freed
-grown {r = r} {h = h} S made = made (r .variables) (h .shape .variables) h (S .whole) (S .whole .variables-are) .grows
+-- the settle before a call can be made
+pub roomable : {s : Sizes} {r : Lent} {at : State} {h : Heap} → Standing s r at h → (c : Call) → Fits (s .m) c → at .freed ≤ 1000000 → Roomable c s r at
+roomable {h = h} S c f few = record { heap = h; whole = S .whole; fits = rw (as-many (S .whole) (S .inv .variables-long)) f; few = few }
+
+-- it takes no freed cell back
+pub grown : (c : Call) {make : Bool} {s : Sizes} {r r′ : Lent} {at o : State} {h : Heap} → Standing s r at h → MakesRoom c make s r at r′ o → at .freed ≤ o .freed
+grown c {h = h} S made = made h (S .whole) .grows
 
 -- a call that passed its check, from what each part of the code says of the rows: the check, the need, the test for a settle, the settle
 module _ {s : Sizes} {r : Lent} {at : State} (c : Call) {no k : ℕ} (checked : (sh : Shape) → Shown (s .n) (r .kinds) (r .values) (r .variables) sh → no ≡ check c sh) (right : no ≡ 0)
     (needed : (sh : Shape) → Shown (s .n) (r .kinds) (r .values) (r .variables) sh → k ≡ needs c sh)
     {make : Bool} (asked : (h : Heap) → at .len ≡ length (h .log) → at .first ≡ h .first → k ≡ needs c (h .shape) → make ≡ wants s c h)
-    {r′ : HeapRows} {log work : List ℕ} {o : State}
-    (made : MakesRoom make s r at (record { kinds = r′ .kinds; values = r′ .values; variables = r .variables; tables = r′ .tables; log = log; work = work }) o)
-    (fit : Fits (s .m) c) {h : Heap} (S : Standing s r at h) where
+    {r′ : Lent} {o : State} (made : MakesRoom c make s r at r′ o) (fit : Fits (s .m) c) {h : Heap} (S : Standing s r at h) where
   settledHeap : Heap
-  settledHeap = settledIf make s (h .shape .variables) h
+  settledHeap = settledIf make s (counted c h) h
 
   passed : check c (h .shape) ≡ 0
   passed = sym (checked (h .shape) (shown-of (S .whole))) ∙ right
@@ -118,15 +124,15 @@ module _ {s : Sizes} {r : Lent} {at : State} (c : Call) {no k : ℕ} (checked : 
   wanted : make ≡ wants s c h
   wanted = asked h (few S .1) (S .whole .rows .first) (needed (h .shape) (shown-of (S .whole)))
 
-  room : RoomMade make s (h .shape .variables) r at h (record { kinds = r′ .kinds; values = r′ .values; variables = r .variables; tables = r′ .tables; log = log; work = work }) o
-  room = made (r .variables) (h .shape .variables) h (S .whole) (S .whole .variables-are)
+  room : RoomMade make s (counted c h) r at h r′ o
+  room = made h (S .whole)
 
-  pub able-now : Able (s .n) c (record { kinds = r′ .kinds; values = r′ .values; variables = r .variables; log = log }) o × (o .freed - at .freed ≤ 1024)
+  pub able-now : Able (s .n) c (record { kinds = r′ .kinds; values = r′ .values; variables = r′ .variables; log = r′ .log }) o × (o .freed - at .freed ≤ 1024)
   unfolding settledHeap
   able-now =
       let W = room .whole in
       let F = W .limits in
-      let m : length (r .variables) ≡ s .m = rw (W .variables-are) (simp length-map (settledIf-inv s F make h (S .inv) .variables-long)) in
+      let m = as-many W (ap length (settledIf-variables make s (counted c h) h) ∙ S .inv .variables-long) in
       let j : length (settledHeap .log) + needs c (settledHeap .shape) ≤ s .l = rw wanted (for-room s F c h (S .inv)) in
       let e = W .logged .count in
       let l = W .log-long in
@@ -135,13 +141,13 @@ module _ {s : Sizes} {r : Lent} {at : State} (c : Call) {no k : ℕ} (checked : 
       (able W c (rw m fit) (rw wanted (for-right s F c h (S .inv) passed)) (omega arith), omega arith)
 
   -- the call is done
-  pub worked-as : {q : CallRows} {w : Worked} → Does s (acted s c (o .freed - at .freed)) (record { kinds = r′ .kinds; values = r′ .values; variables = r .variables; log = log }) o q w
-      → Answered s (beside (r′ .tables) work q) at (step s c h) w
+  pub worked-as : {q : CallRows} {w : Worked} → Does s (acted s c (o .freed - at .freed)) (record { kinds = r′ .kinds; values = r′ .values; variables = r′ .variables; log = r′ .log }) o q w
+      → Answered s (beside (r′ .tables) (r′ .work) q) at (step s c h) w
   unfolding settledHeap
   worked-as did =
       let W = room .whole in
       let F = W .limits in
-      let D = did (r′ .tables) work settledHeap W in
+      let D = did (r′ .tables) (r′ .work) settledHeap W in
       let a = S .whole .rows .freed in
       let b = W .rows .freed in
       let e = step-worked s h c {k = o .freed - at .freed} passed wanted (omega arith) in
@@ -165,9 +171,9 @@ status-small s c h = go (step s c h .answer .status) refl
     go zero e = omega arith
     go (suc k) e = by (call-refused s c h k e .1)
       where
-        by : {A B : Type 0} → ((check c (h .shape) ≡ suc k) × A) ⊎ ((suc k ≡ 14) × B) → suc k ≤ 15
+        by : {A : Type 0} → ((check c (h .shape) ≡ suc k) × A) ⊎ Fourteen s c h (suc k) (step s c h) → suc k ≤ 15
         by (inl p) = (rw (p .0) at (check-reason c (h .shape))) .1
-        by (inr p) = let e = p .0 in omega arith
+        by (inr f) = let e = f .said in omega arith
 
 -- ---- the call that was found
 

@@ -19,7 +19,7 @@ use rules::Sizes;
 use rules::State;
 use rules::Used;
 use settle::settle;
-use settle::settle_if;
+use settle::settle_for;
 use words::Decoded;
 use words::call_at;
 
@@ -79,7 +79,8 @@ fn step(
     }
     let k = need(call, kinds, values, variables, n);
     let make = settles_first(call, k, sizes, at);
-    let room = settle_if(
+    let room = settle_for(
+        call,
         make,
         kinds,
         values,

@@ -3,8 +3,7 @@ use borrow.Author.Needs.{needs}
 use mathlib.Core.Path.{refl, _∙_}
 use Rattle.rules.proofs.Step.{needs-two}
 use Rattle.calls.proofs.Arms.{shown-of}
-use Rattle.settle.proofs.Settling.{settleable}
-use Rattle.working.proofs.Steps.{reaches, few, refused-as, grown, able-now, worked-as, same-call, no-call, found-fits, answered-call}
+use Rattle.working.proofs.Steps.{reaches, few, refused-as, roomable, grown, able-now, worked-as, same-call, no-call, found-fits, answered-call}
 use Rattle.working.proofs.step.Statement.{statement}
 use Rattle.working.proofs.step.Tie as tie
 
@@ -15,10 +14,13 @@ start c = search needs
 abbrev decoded : tie.After-check → tie.After-call-at
 decoded c = search needs
 
-abbrev checked : tie.After-settle-if → tie.After-check
+abbrev found : tie.After-check → tie.After-found
+found c = search needs
+
+abbrev checked : tie.After-settle-for → tie.After-check
 checked c = search needs
 
-abbrev settled : tie.After-act → tie.After-settle-if
+abbrev settled : tie.After-act → tie.After-settle-for
 settled c = search needs
 
 abbrev lent : tie.After-act → tie.After-kinds
@@ -74,21 +76,24 @@ settles-first-requires c κs =
     let S = start q .pre .standing in
     (rw (c .need .ensures _ (shown-of (S .whole))) (needs-two (f .found .given .0 .0) (start q .pre .heap .shape)), few S .0)
 
-settle-if-requires : tie.Need-settle-if-requires
-settle-if-requires c κs =
+settle-for-requires : tie.Need-settle-for-requires
+settle-for-requires c κs =
+    let f : tie.After-found = search needs in
     let k : tie.After-check = search needs in
-    let s = start (decoded k) in
-    settleable (s .pre .standing .whole) (s .pre .few)
+    let q = decoded k in
+    let s = start q in
+    roomable (s .pre .standing) _ (found-fits (s .args .sizes .m) (s .args .words .now) (f .found .given .1) (q .call-at .ensures)) (s .pre .few)
 
 sub-freed : tie.Need-sub-freed
 sub-freed c =
-    let m : tie.After-settle-if = search needs in
-    let s = start (decoded (checked m)) in
-    grown (s .pre .standing) (m .settle-if .ensures)
+    let m : tie.After-settle-for = search needs in
+    let k = checked m in
+    let s = start (decoded k) in
+    grown (found k .found .given .0 .0) (s .pre .standing) (m .settle-for .ensures)
 
 act-requires : tie.Need-act-requires
 act-requires c κs =
-    let m : tie.After-settle-if = search needs in
+    let m : tie.After-settle-for = search needs in
     let t : tie.After-settles-first = search needs in
     let n : tie.After-need = search needs in
     let i : tie.Else1 = search needs in
@@ -97,7 +102,7 @@ act-requires c κs =
     let q = decoded k in
     let s = start q in
     let fit = found-fits (s .args .sizes .m) (s .args .words .now) (f .found .given .1) (q .call-at .ensures) in
-    able-now _ (k .check .ensures) (i .if1 .left) (n .need .ensures) (t .settles-first .ensures) (m .settle-if .ensures) fit (s .pre .standing)
+    able-now _ (k .check .ensures) (i .if1 .left) (n .need .ensures) (t .settles-first .ensures) (m .settle-for .ensures) fit (s .pre .standing)
 
 same-length-4 : tie.Need-same-length-4
 same-length-4 c =
@@ -137,7 +142,7 @@ returns-3 c =
     let q = decoded k in
     let s = start q in
     let fit = found-fits (s .args .sizes .m) (s .args .words .now) (f .found .given .1) (q .call-at .ensures) in
-    λ d h e S. answered-call h (same-call (f .found .given .1) (q .call-at .ensures) e) (worked-as _ (k .check .ensures) (i .if1 .left) (n .need .ensures) (t .settles-first .ensures) (m .settle-if .ensures) fit S (a .act .ensures))
+    λ d h e S. answered-call h (same-call (f .found .given .1) (q .call-at .ensures) e) (worked-as _ (k .check .ensures) (i .if1 .left) (n .need .ensures) (t .settles-first .ensures) (m .settle-for .ensures) fit S (a .act .ensures))
 
 pub step-spec : {M : Type 1} → statement M
 step-spec =
@@ -154,7 +159,7 @@ step-spec =
     returns-2
     need-requires
     settles-first-requires
-    settle-if-requires
+    settle-for-requires
     sub-freed
     act-requires
     same-length-4
