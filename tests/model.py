@@ -1,5 +1,5 @@
 #!/usr/bin/env python3
-"""Document 01, with request A2, as a plain program, written from the papers alone: it gives the expected output of crates/cases.
+"""Document 01, with requests A1 and A2, as a plain program, written from the papers alone: it gives the expected output of crates/cases.
 
     tests/model.py < crates/cases/stdin      prints what crates/cases/stdout holds
 
@@ -117,13 +117,14 @@ class Heap:
         else:
             self.zct.add(a)
 
-    def settle(self):
-        before = self.freed
+    def settle(self, let_go=None):
+        """A settle; the hold of the variable let_go is not counted."""
+        before, held = self.freed, [a for v, a in enumerate(self.variables) if v != let_go]
         for kind, a in self.log:
             self.apply(kind, a)
         self.log = []
         while True:
-            loose = [a for a in self.zct if a not in self.variables]
+            loose = [a for a in self.zct if a not in held]
             if not loose:
                 return self.freed - before
             a = min(loose)
@@ -147,7 +148,7 @@ class Heap:
             return 15 if self.kinds[i] == 0 else 13, 0
         need = 1 if op == 1 else (op == 4) + (op in (4, 5, 6) and self.kinds[i] == 2)
         if len(self.log) + need > self.l or op == 1 and self.free == self.n:
-            self.settle()
+            self.settle(a if op == 1 else None)
         if op == 1:
             if self.free == self.n:
                 return 14, 0

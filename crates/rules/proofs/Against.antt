@@ -19,4 +19,11 @@ look-right =
       new-cells-are-blank = refl;
       freed-cells-are-blank = refl;
       tables-ascend = refl;
+      new-lets-go-of-its-cell = refl;
+      for-room-too = refl;
+      others-holds-count = refl;
+      kept-at-14 = refl;
+      the-end-counts-all = refl;
+      settle-counts-all = refl;
+      a-link-counts-all = refl;
     }

@@ -34,7 +34,7 @@ use Rattle.rules.proofs.Reclaim.{reclaim-keeps}
 use Rattle.rules.proofs.FreeList.{Taken}
 use Rattle.rules.proofs.Calls.{act-fields, var-live, store-live, act-keeps}
 use Rattle.rules.proofs.Step.{taken, counting, counting-inv, readied, readied-inv, readied-right, Ran, run-as}
-use Rattle.rules.proofs.Facts.{fourteen-keeps}
+use Rattle.rules.proofs.Facts.{Fourteen, call-refused, fourteen-left}
 use Rattle.rules.proofs.Fresh.{dead}
 use Rattle.rules.proofs.Sim.{ren, renF, Part, Sim, Own, sim-rename, sim-less, sim-hold, refuses-same, value-same, sim-act}
 
@@ -280,11 +280,11 @@ module _ (s : Sizes) (ok : Limits s) where
   -- a new answered 14 leaves the endless heap as it was: nothing was freed
   pub step-14 : (c : Call) (h : Heap) → Inv s h → (ρ : ℕ → ℕ) (e : Endless) → AtEndless ρ (h .shape) e → step s c h .answer .status ≡ 14 → AtEndless ρ (step s c h .heap .shape) e
   unfolding replayed
-  step-14 c h g ρ e R i = go (fourteen-keeps s ok c h g i)
+  step-14 c h g ρ e R i = go (call-refused s c h 13 i .1)
     where
-      go : (step s c h .heap ≡ h) ⊎ (step s c h .heap ≡ replayed (s .cap) h) → AtEndless ρ (step s c h .heap .shape) e
-      go (inl d) = rw d R
-      go (inr d) = rw d R
+      go : {A : Type 0} → (A × (step s c h .heap ≡ h)) ⊎ Fourteen s c h 14 (step s c h) → AtEndless ρ (step s c h .heap .shape) e
+      go (inl p) = rw (p .1) R
+      go (inr f) = rw (fourteen-left s ok c h g f) R
 
 -- a fresh heap against an endless heap with nothing in it
 pub fresh-at : (s : Sizes) → AtEndless (λ a. a) (fresh s .shape) (endless (s .m))

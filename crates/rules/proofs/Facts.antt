@@ -300,13 +300,17 @@ module _ (s : Sizes) (ok : Limits s) where
       go true e = e
       go false e = rw (full-before e) e
 
-  -- and then nothing was freed: v, its cell, both fields and every other cell are as they were
-  pub fourteen-keeps : (c : Call) (h : Heap) → Inv s h → step s c h .answer .status ≡ 14 → (step s c h .heap ≡ h) ⊎ (step s c h .heap ≡ replayed (s .cap) h)
-  fourteen-keeps c h g e = go (call-refused s c h 13 e .1)
+  -- 14 has freed nothing: the log is replayed, and that is all
+  pub fourteen-left : (c : Call) (h : Heap) → Inv s h → {k : ℕ} {o : Stepped} → Fourteen s c h k o → o .heap ≡ replayed (s .cap) h
+  fourteen-left c h g f = f .left ∙ settledBy-full s ok (counted c h) h (counting-inv s ok c h g .good) (f .none-free)
+
+  -- so v keeps its cell, with both fields
+  pub fourteen-keeps : (v : ℕ) (h : Heap) → Inv s h → step s (New v) h .answer .status ≡ 14 → step s (New v) h .heap ≡ replayed (s .cap) h
+  fourteen-keeps v h g e = go (call-refused s (New v) h 13 e .1)
     where
-      go : {A : Type 0} → (A × (step s c h .heap ≡ h)) ⊎ Fourteen s c h 14 (step s c h) → (step s c h .heap ≡ h) ⊎ (step s c h .heap ≡ replayed (s .cap) h)
-      go (inl p) = inl (p .1)
-      go (inr f) = inr (f .left ∙ settledBy-full s ok (counted c h) h (counting-inv s ok c h g .good) (f .none-free))
+      go : {A : Type 0} → ((check (New v) (h .shape) ≡ 14) × A) ⊎ Fourteen s (New v) h 14 (step s (New v) h) → step s (New v) h .heap ≡ replayed (s .cap) h
+      go (inl p) = absurd (let z = p .0 in omega arith)
+      go (inr f) = fourteen-left (New v) h g f
 
   -- k is a heap after a new took its cell for v from the heap h
   pub record Handed (v : ℕ) (h k : Heap) : Type 0 where

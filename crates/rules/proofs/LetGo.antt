@@ -1,7 +1,7 @@
 -- A new that lets go of v: 14 exactly if no cell is free then, v kept at 14, else the same as with v cleared first; inside a batch. Assumes nothing.
 use Prim.Native.Nat.{ℕ}
 use mathlib.Core.Path.{_≡_, refl, sym, ap, _∙_}
-use mathlib.Core.Logic.{_⊎_, inl, inr, _↔_}
+use mathlib.Core.Logic.{inl, inr, _↔_}
 use mathlib.Core.Bool.{true}
 use mathlib.Core.Option.{none}
 use mathlib.Core.List.{append-nil}
@@ -19,8 +19,7 @@ use Rattle.rules.specs.Call.{refuses, logs, act, hold}
 use Rattle.rules.specs.Step.{Stepped, full, noneFree, wants, counted, settledIf, settledFor, doDeed, acted, run, step}
 use Rattle.rules.specs.Invariant.{Inv}
 use Rattle.rules.proofs.Step.{settledIf-having, counting, readied, unsettled, Ran, run-as}
-use Rattle.rules.proofs.Facts.{fourteen-full}
-use Rattle.rules.proofs.Facts as facts
+use Rattle.rules.proofs.Facts.{fourteen-full, fourteen-keeps}
 
 module _ (s : Sizes) (ok : Limits s) where
   module _ (v : ℕ) (h : Heap) (g : Inv s h) where
@@ -43,11 +42,7 @@ module _ (s : Sizes) (ok : Limits s) where
     -- a settle after 14 is the settle without that new
     pub kept-settled : step s (New v) h .answer .status ≡ 14 → settled s (step s (New v) h .heap) ≡ settled s h
     unfolding settled settledBy replayed replay
-    kept-settled e = go (facts.fourteen-keeps s ok (New v) h g e)
-      where
-        go : (step s (New v) h .heap ≡ h) ⊎ (step s (New v) h .heap ≡ replayed (s .cap) h) → settled s (step s (New v) h .heap) ≡ settled s h
-        go (inl d) = ap (settled s) d
-        go (inr d) = ap (settled s) d
+    kept-settled e = ap (settled s) (fourteen-keeps s ok v h g e)
 
     -- with v let go a new is readied as it is without
     first-let-go : settledFor s (New v) (counting (New v) h) ≡ readied s (New v) h

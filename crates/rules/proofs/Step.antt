@@ -31,7 +31,7 @@ use Rattle.rules.proofs.Sorted.{replay-kept, small-append, replay-appen
 use Rattle.rules.proofs.Cells.{live-store-0, refs-store, length-store, lives, lives-le, Plain1, Figures, plain-store, plain-store-0, figures-store}
 use Rattle.rules.proofs.Reclaim.{having, reclaim-having, reclaim-full, reclaim-good, reclaim-done, reclaim-leaves, reclaim-sum, reclaim-plain, reclaim-figures, reclaim-kept}
 use Rattle.rules.proofs.FreeList.{Taken, frees-store, frees-take, reclaim-frees}
-use Rattle.rules.proofs.Calls.{holds-set, deed-good, act-keeps, act-variables, logs-small, logs-long, store-live}
+use Rattle.rules.proofs.Calls.{holds-set, hold-good, deed-good, act-keeps, act-variables, logs-small, logs-long, store-live}
 
 -- a call needs at most two entries
 pub needs-two : (c : Call) (sh : Shape) → needs c sh ≤ 2
@@ -106,6 +106,8 @@ module _ (s : Sizes) (ok : Limits s) (hs : List (Option ℕ)) (h : Heap)
   unfolding noneFree settledBy replayed
   settledBy-full e = reclaim-full (s .n) (s .cap) (ok .cap-least) hs (s .n) (replayed (s .cap) h) g (eqb-true _ _ e)
 
+-- ---- v let go
+
 -- h with the holds for its variables that the settle before a call counts: before a new, v let go
 abbrev pub counting : Call → Heap → Heap
 counting c h = having (counted c h) h
@@ -126,10 +128,6 @@ taken-readied s v h = ap (takeCell v) (for-readied s (New v) h) ∙ taken-having
     taken-having : (vs : List (Option ℕ)) (x : Heap) → x .shape .variables ≡ set vs v none → takeCell v (having vs x) ≡ takeCell v x
     taken-having vs x e = rw (e, set-set vs v none (some (x .first)))
 
--- what a call that passed its check comes to
-abbrev pub Ran : Sizes → Call → Heap → Type 0
-Ran s c h = (run s c h ≡ acted s c (readied s c h .freed - h .freed) (readied s c h)) ⊎ (run s c h ≡ refused (replayed (s .cap) h) 14)
-
 -- with no cell free when a new is done, a settle was made for it
 pub none-free-settled : (s : Sizes) (v : ℕ) (h : Heap) → noneFree s (settledFor s (New v) h) ≡ true → settledFor s (New v) h ≡ settledBy s (counted (New v) h) h
 unfolding wants settledIf
@@ -142,6 +140,10 @@ none-free-settled s v h e = go (full s 1 h) (noneFree s h) refl e
     go true q d e = refl
     go false true d e = refl
     go false false d e = absurd (false≢true (sym d ∙ e))
+
+-- what a call that passed its check comes to
+abbrev pub Ran : Sizes → Call → Heap → Type 0
+Ran s c h = (run s c h ≡ acted s c (readied s c h .freed - h .freed) (readied s c h)) ⊎ (run s c h ≡ refused (replayed (s .cap) h) 14)
 
 module _ (s : Sizes) (ok : Limits s) where
   -- ---- settle
@@ -179,9 +181,10 @@ module _ (s : Sizes) (ok : Limits s) where
 
   -- with v let go a heap keeps its invariant
   pub counting-inv : (c : Call) (h : Heap) → Inv s h → Inv s (counting c h)
+  unfolding hold replay
   counting-inv (New v) h g =
       record {
-        good = record { len = g .good .len; counted = g .good .counted; held = λ b i. still b (holds-set (h .shape .variables) v none b i) };
+        good = hold-good s ok (h .shape) (replay (s .cap) (h .log) (h .tables)) (g .good) v none (λ a e. absurd (let z : _≡_ {A = ℕ} 0 1 = cc in omega arith));
         frees = g .frees;
         kept = g .kept;
         plain-1 = g .plain-1;
@@ -190,10 +193,6 @@ module _ (s : Sizes) (ok : Limits s) where
         log-room = g .log-room;
         log-small = g .log-small;
       }
-    where
-      still : (b : ℕ) → (none ≡ some b) ⊎ (holds b (h .shape .variables) ≡ true) → live (h .shape .fields) b ≡ true
-      still b (inl e) = absurd (let z : _≡_ {A = ℕ} 0 1 = cc in omega arith)
-      still b (inr i) = g .good .held b i
   counting-inv (Do d) h g = g
   counting-inv Settle h g = g
 

@@ -1,10 +1,12 @@
 -- Cases against the errors that look right: each of them gets one wrong. Assumes nothing.
 use Prim.Native.Nat.{ℕ}
 use mathlib.Core.Path.{_≡_}
+use mathlib.Core.Option.{none, some}
 use mathlib.Core.List.{List, [], _∷_, _++_}
 use lib.IntN.{pos}
+use lib.ListN.{take}
 use Rattle.rules.specs.declared.Field.the-variants.{Nothing, Free}
-use Rattle.rules.specs.declared.Deed.the-variants.{Clear, Link, Put, Blank}
+use Rattle.rules.specs.declared.Deed.the-variants.{Copy, Clear, Link, Put, Blank}
 use Rattle.rules.specs.declared.Call.{Call}
 use Rattle.rules.specs.declared.Call.the-variants.{New, Do, Settle}
 use Rattle.rules.specs.declared.Sizes.{Sizes}
@@ -24,6 +26,10 @@ ends n cs = P.batch (sizes n) cs (P.fresh (sizes n))
 abbrev two : List Call
 two = New 0 ∷ New 1 ∷ Do (Link 0 0 1) ∷ Do (Link 0 1 1) ∷ Settle ∷ []
 
+-- a new into one of the two variables that hold the only cell
+abbrev held-twice : List Call
+held-twice = New 0 ∷ Do (Copy 1 0) ∷ New 1 ∷ []
+
 pub record LooksRight : Type 0 where
   -- freeing a cell when its count falls to none, without looking at the variables: variable 1 still holds cell 1
   pub held-cells-stay : ends 4 (New 0 ∷ New 1 ∷ Do (Link 0 0 1) ∷ Do (Blank 0 0) ∷ []) .heap .tables .zct ≡ 0 ∷ 1 ∷ []
@@ -40,3 +46,13 @@ pub record LooksRight : Type 0 where
   pub freed-cells-are-blank : ends 1 (New 0 ∷ Do (Put 0 1 (pos 7)) ∷ Do (Clear 0) ∷ []) .heap .shape .fields ≡ Free 1 ∷ Nothing ∷ []
   -- keeping insertion order in a table: cell 1 comes into ZCT after cells 0 and 2
   pub tables-ascend : ends 4 (New 0 ∷ New 1 ∷ Do (Link 0 0 1) ∷ New 2 ∷ Settle ∷ Do (Blank 0 0) ∷ []) .heap .tables .zct ≡ 0 ∷ 1 ∷ 2 ∷ []
+  -- counting v's own hold in the settle for a new, for lack of a free cell (P2 too) or for room in the log
+  pub new-lets-go-of-its-cell : ends 1 (New 0 ∷ New 0 ∷ New 0 ∷ []) .heap .freed ≡ 2
+  pub for-room-too : ends 8 (New 0 ∷ New 0 ∷ New 0 ∷ New 0 ∷ New 0 ∷ []) .heap .freed ≡ 4
+  -- leaving out another variable's hold, or clearing v at 14: variable 0 holds the cell too, and both keep it
+  pub others-holds-count : ends 1 held-twice .heap .freed ≡ 0
+  pub kept-at-14 : ends 1 held-twice .heap .shape .variables ≡ some 0 ∷ some 0 ∷ none ∷ []
+  -- leaving out a hold in the settle at a batch's end, of the call settle, or before a link: no cell goes that a variable holds
+  pub the-end-counts-all : ends 4 (New 0 ∷ []) .heap .freed ≡ 0
+  pub settle-counts-all : ends 4 (New 0 ∷ Settle ∷ []) .heap .freed ≡ 0
+  pub a-link-counts-all : ends 4 (take 4 two ++ (Do (Link 1 0 0) ∷ [])) .heap .freed ≡ 0

@@ -44,7 +44,7 @@ saysFourteen = withBatch (changed (λ o. leavesWith (o .outcome) (o .rows) (each
 abbrev pub answersNought : Heaps
 answersNought = withBatch (changed (λ o. leavesWith (o .outcome) (o .rows) (eachAnswer (λ s. s) (λ x. pos 0) (o .answers))))
 
--- the calls, with another step and another settle at the end
+-- the calls, with another step d, and another settle f at the end
 abbrev pub callsBy : (Sizes → Call → Heap → Stepped) → (Sizes → Heap → Heap) → Sizes → List Call → Heap → Result
 callsBy d f s [] h = record { heap = f s h; answers = [] }
 callsBy d f s (c ∷ cs) h =
@@ -59,16 +59,16 @@ leftBy d f h r (some cs) row o =
     let b = callsBy d f s cs (heapOf h r) in
     leavesWith (outcome 0 (headOf s (b .heap)) (b .heap .freed)) (rowsOf s (b .heap)) (answered (b .answers) row)
 
-abbrev pub by : (Sizes → Call → Heap → Stepped) → (Sizes → Heap → Heap) → Head → Lent → List ℤ → List ℤ → Batched
-by d f h r ws row = changed (leftBy d f h r (callsIn (h .sizes .m) ws) row) h r ws row
+abbrev pub workedBy : (Sizes → Call → Heap → Stepped) → (Sizes → Heap → Heap) → Head → Lent → List ℤ → List ℤ → Batched
+workedBy d f h r ws row = changed (leftBy d f h r (callsIn (h .sizes .m) ws) row) h r ws row
 
 -- the settle frees nothing: it only replays
 abbrev pub freesNothing : Heaps
-freesNothing = withBatch (by step (λ s h. replayed (s .cap) h))
+freesNothing = withBatch (workedBy step (λ s h. replayed (s .cap) h))
 
 -- frees at the first settle, when no variable and no table knows a cell yet, and then pretends
 abbrev pub freesOnce : Heaps
-freesOnce = withBatch (λ h r ws row. cond (eqb (h .zct) 0) (batchOf h r ws row) (by step (λ s k. replayed (s .cap) k) h r ws row))
+freesOnce = withBatch (λ h r ws row. cond (eqb (h .zct) 0) (batchOf h r ws row) (workedBy step (λ s k. replayed (s .cap) k) h r ws row))
 
 -- makes up its count of freed cells
 abbrev pub madeUpCount : Heaps
@@ -110,14 +110,14 @@ stepCounting f s c h =
 
 -- v's own hold is counted, as before request A1
 abbrev pub countsOwnHold : Heaps
-countsOwnHold = withBatch (by (stepCounting (λ s c h. h .shape .variables)) settled)
+countsOwnHold = withBatch (workedBy (stepCounting (λ s c h. h .shape .variables)) settled)
 
 -- it is counted where the settle is for room in the log
-abbrev pub butForRoom : Sizes → Call → Heap → List (Option ℕ)
-butForRoom s c h = cond (noneFree s h) (counted c h) (h .shape .variables)
+abbrev pub ownForRoom : Sizes → Call → Heap → List (Option ℕ)
+ownForRoom s c h = cond (noneFree s h) (counted c h) (h .shape .variables)
 
 abbrev pub countsForRoom : Heaps
-countsForRoom = withBatch (by (stepCounting butForRoom) settled)
+countsForRoom = withBatch (workedBy (stepCounting ownForRoom) settled)
 
 -- a new counts no variable's hold
 abbrev pub noneForNew : Sizes → Call → Heap → List (Option ℕ)
@@ -126,7 +126,7 @@ noneForNew s (Do d) h = counted (Do d) h
 noneForNew s Settle h = counted Settle h
 
 abbrev pub countsNoHold : Heaps
-countsNoHold = withBatch (by (stepCounting noneForNew) settled)
+countsNoHold = withBatch (workedBy (stepCounting noneForNew) settled)
 
 -- v is cleared at 14
 abbrev pub stepClearing : Sizes → Call → Heap → Stepped
@@ -137,4 +137,4 @@ stepClearing s (Do d) h = step s (Do d) h
 stepClearing s Settle h = step s Settle h
 
 abbrev pub clearsAtFourteen : Heaps
-clearsAtFourteen = withBatch (by stepClearing settled)
+clearsAtFourteen = withBatch (workedBy stepClearing settled)

@@ -17,7 +17,7 @@ use Rattle.rules.specs.declared.State.{State}
 use Rattle.rules.specs.Heap.{Shape, Heap}
 use Rattle.rules.specs.Call.{Fits, check}
 use Rattle.rules.specs.Step.{Stepped, refused, needs, full, noneFree, wants, counted, settledIf, takeCell, doNew, doDeed, acted, run, step}
-use Rattle.rules.specs.Rows.{HeapRows, CallRows, Lent, beside}
+use Rattle.rules.specs.Rows.{CallRows, Lent, beside}
 use Rattle.rules.specs.Whole.{Whole}
 use Rattle.rules.specs.Invariant.{Inv}
 use Rattle.rules.proofs.Calls.{call-fits}

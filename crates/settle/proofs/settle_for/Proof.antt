@@ -1,3 +1,4 @@
+-- `settle::settle_for` meets its contract: no settle, a settle by all variables, or one with v let go and put back. Assumes nothing.
 use borrow.Author.Needs.{needs}
 use Prim.Native.Nat.{ℕ}
 use mathlib.Core.Path.{_≡_, subst}
@@ -14,7 +15,7 @@ use Rattle.settle.proofs.Settling.{fits-new, room-as-is, room-by-all, r
 use Rattle.settle.proofs.settle_for.Statement.{statement}
 use Rattle.settle.proofs.settle_for.Tie as tie
 
--- by its tag
+-- a call with another tag is no new
 not-new : {c : Call} {v : ℕ} → c ≡ New v → (tagOf the-type c ≡ 1) ⊎ (tagOf the-type c ≡ 2) → ⊥
 not-new {v = v} n t = ⊎-elim (λ e. omega arith) (λ e. omega arith) (subst (λ (c : Call). (tagOf the-type c ≡ 1) ⊎ (tagOf the-type c ≡ 2)) n t)
 
@@ -75,24 +76,28 @@ returns-2 c =
 mul-own : tie.Need-mul-own
 mul-own c =
     let s : tie.Start = search needs in
-    let l = fits-new _ (c .before .call .given .1) (s .pre .fits) in
+    let k : tie.After-call = search needs in
+    let l = fits-new _ (k .call .given .1) (s .pre .fits) in
     search needs
 
 slice-copy-out-own : tie.Need-slice-copy-out-own
 slice-copy-out-own c =
     let s : tie.Start = search needs in
-    fits-new _ (c .before .call .given .1) (s .pre .fits)
+    let k : tie.After-call = search needs in
+    fits-new _ (k .call .given .1) (s .pre .fits)
 
 mul-variables : tie.Need-mul-variables
 mul-variables c =
     let s : tie.Start = search needs in
-    let l = fits-new _ (c .before .before .call .given .1) (s .pre .fits) in
+    let k : tie.After-call = search needs in
+    let l = fits-new _ (k .call .given .1) (s .pre .fits) in
     search needs
 
 slice-set-of-variables : tie.Need-slice-set-of-variables
 slice-set-of-variables c =
     let s : tie.Start = search needs in
-    fits-new _ (c .before .before .call .given .1) (s .pre .fits)
+    let k : tie.After-call = search needs in
+    fits-new _ (k .call .given .1) (s .pre .fits)
 
 settle-requires-2 : tie.Need-settle-requires-2
 settle-requires-2 c κs =
