@@ -1,15 +1,18 @@
 -- Laws of a settle on all rows, and how a caller meets and uses its contract. Assumes nothing.
 use mathlib.Core.Path.{_≡_, refl, sym, ap, _∙_}
+use mathlib.Core.Logic.{_⊎_, ⊎-elim}
 use mathlib.Core.Bool.{Bool, true, false}
 use mathlib.Core.Option.{Option, none}
 use mathlib.Core.List.{List, map}
 use Prim.Native.Nat.{ℕ, _≤_, _<_}
 use native.Mathlib.Omega.{arith}
-use lib.ListN.{length, getD, set, replicate, length-replicate}
+use lib.ListN.{length, getD, set, length-set, replicate, length-replicate}
 use lib.Seq.{set-getD, set-set}
 use lib.IntN.{ℤ, pos, negsuc}
 use Rattle.rules.specs.declared.Call.{Call}
 use Rattle.rules.specs.declared.Call.the-variants.{New, Do, Settle}
+use denote.Enum.Declared.{tagOf}
+use Rattle.rules.proofs.Call.{the-type}
 use Rattle.rules.specs.declared.Used.{Used}
 use Rattle.rules.specs.declared.State.{State}
 use Rattle.rules.specs.declared.Sizes.{Sizes}
@@ -18,7 +21,7 @@ use Rattle.rules.specs.Rules.{replay}
 use Rattle.rules.specs.Heap.{Heap}
 use Rattle.rules.specs.Settle.{replayed, settledBy, settled}
 use Rattle.rules.specs.Call.{Fits}
-use Rattle.rules.specs.Step.{settledIf}
+use Rattle.rules.specs.Step.{counted, settledIf}
 use Rattle.rules.specs.Rows.{TableRows, HeapRows, Lent, heapRows}
 use Rattle.rules.specs.Whole.{Ready, Rows, Whole}
 use Rattle.rules.proofs.Lists.{map-set}
@@ -27,7 +30,7 @@ use Rattle.cells.specs.Marks.{Marks}
 use Rattle.cells.proofs.Logging.{logged-none}
 use Rattle.reclaim.specs.Reclaiming.{Reclaimable, Reclaims}
 use Rattle.settle.specs.Replaying.{Replays}
-use Rattle.settle.specs.Settling.{holding, Settleable, Settled, Settles, Roomable, RoomMade, MakesRoom}
+use Rattle.settle.specs.Settling.{holding, Settleable, Settled, Settles, setAside, ownWord, putBack, Roomable, RoomMade, MakesRoom}
 
 -- where the batch stands after a replay
 abbrev emptied : State → Used → State
@@ -96,15 +99,15 @@ pub settled-whole : {s : Sizes} {r : Lent} {at o : State} {h : Heap} → Settled
 unfolding settled
 settled-whole S = S .whole
 
--- a row of variables with v let go
-let-go : {xs : List ℤ} (vs : List (Option ℕ)) (v : ℕ) → xs ≡ map variableOf vs → set xs v (negsuc 0) ≡ map variableOf (set vs v none)
-let-go vs v e = rw e (sym (map-set variableOf v none vs))
-
 -- a caller whose variables' row is the heap's can settle
 pub settleable : {s : Sizes} {r : Lent} {at : State} {h : Heap} → Whole s r at h → at .freed ≤ 1000000 → Settleable s r at
 settleable {r = r} {h = h} W few = record { heap = h; own = r .variables; holds = h .shape .variables; whole = W; counted = W .variables-are; few = few }
 
 -- ---- the settle before a call
+
+-- the rows of cells and tables, with these variables, log and work row
+abbrev variabled : List ℤ → HeapRows → List ℕ → List ℕ → Lent
+variabled vs r log work = record { kinds = r .kinds; values = r .values; variables = vs; tables = r .tables; log = log; work = work }
 
 -- where none is made the rows stay
 pub room-as-is : (c : Call) {make : Bool} {s : Sizes} {r : Lent} {at : State} → make ≡ false → MakesRoom c make s r at r at
@@ -115,31 +118,49 @@ room-made : {make : Bool} {s : Sizes} {hs : List (Option ℕ)} {r r′ : Lent} {
 unfolding settledIf
 room-made e S = rw e (record { whole = S .whole; grows = S .grows; few = S .few; work-is = S .work-zero })
 
--- the other rows, with these variables
-abbrev variabled : List ℤ → HeapRows → List ℕ → List ℕ → Lent
-variabled vs r log work = record { kinds = r .kinds; values = r .values; variables = vs; tables = r .tables; log = log; work = work }
+-- the row of variables with v let go is the holds that are counted
+aside-counted : (c : Call) (h : Heap) {xs : List ℤ} → xs ≡ map variableOf (h .shape .variables) → setAside c xs ≡ map variableOf (counted c h)
+aside-counted (New v) h e = rw e (sym (map-set variableOf v none (h .shape .variables)))
+aside-counted (Do d) h e = e
+aside-counted Settle h e = e
 
-module _ {make : Bool} {s : Sizes} {r : Lent} {at o : State} {r′ : HeapRows} {log work : List ℕ} (e : make ≡ true) where
-  -- before a call that is no new, a settle by the row of variables as it is
-  pub room-by-all : (c : Call) → ((v : ℕ) → c ≡ New v → ⊥) → Settles s r at (variabled (r .variables) r′ log work) o → MakesRoom c make s r at (variabled (r .variables) r′ log work) o
-  room-by-all (New v) n S h W = absurd (n v refl)
-  room-by-all (Do d) n S h W = room-made e (S (r .variables) (h .shape .variables) h W (W .variables-are))
-  room-by-all Settle n S h W = room-made e (S (r .variables) (h .shape .variables) h W (W .variables-are))
+-- v put back, the row is as it was
+put-back : (c : Call) (xs : List ℤ) → putBack c (ownWord c xs) (setAside c xs) ≡ xs
+put-back (New v) xs = set-set xs v (negsuc 0) (getD xs v (pos 0)) ∙ set-getD xs v (pos 0)
+put-back (Do d) xs = refl
+put-back Settle xs = refl
 
-  -- before a new, by the row with v let go, and v put back after it
-  pub room-by-others : (c : Call) {v : ℕ} {x : ℤ} → c ≡ New v → x ≡ getD (r .variables) v (pos 0)
-      → Settles s (holding (set (r .variables) v (negsuc 0)) r) at (variabled (set (r .variables) v (negsuc 0)) r′ log work) o
-      → MakesRoom c make s r at (variabled (set (set (r .variables) v (negsuc 0)) v x) r′ log work) o
-  room-by-others c {v} {x} n d S h W =
-      rw (n, set-set (r .variables) v (negsuc 0) x, d, set-getD (r .variables) v (pos 0))
-      (room-made e (S (r .variables) (set (h .shape .variables) v none) h W (let-go (h .shape .variables) v (W .variables-are))))
+pub aside-long : (c : Call) (xs : List ℤ) → length (setAside c xs) ≡ length xs
+aside-long (New v) xs = length-set xs v (negsuc 0)
+aside-long (Do d) xs = refl
+aside-long Settle xs = refl
 
--- what a settle needs then
-pub settleable-others : (c : Call) {v : ℕ} {s : Sizes} {r : Lent} {at : State} → c ≡ New v → Roomable c s r at → Settleable s (holding (set (r .variables) v (negsuc 0)) r) at
-settleable-others c {v} {r = r} n R =
-    let vs = R .heap .shape .variables in
-    record { heap = R .heap; own = r .variables; holds = set vs v none; whole = R .whole; counted = let-go vs v (R .whole .variables-are); few = R .few }
+-- a settle between the two
+module _ (c : Call) {s : Sizes} {r : Lent} {at : State} where
+  pub settleable-for : Roomable c s r at → Settleable s (holding (setAside c (r .variables)) r) at
+  settleable-for R =
+      record { heap = R .heap; own = r .variables; holds = counted c (R .heap); whole = R .whole; counted = aside-counted c (R .heap) (R .whole .variables-are); few = R .few }
 
--- a new's variable is there
+  pub room-by : {make : Bool} {x : ℤ} {xs ys : List ℤ} {r′ : HeapRows} {log work : List ℕ} {o : State} → make ≡ true
+      → xs ≡ setAside c (r .variables) → x ≡ ownWord c (r .variables) → ys ≡ putBack c x xs
+      → Settles s (holding xs r) at (variabled xs r′ log work) o → MakesRoom c make s r at (variabled ys r′ log work) o
+  room-by {x = x} {xs} {ys} e a d b S h W = rw as-was (room-made e (S (r .variables) (counted c h) h W (a ∙ aside-counted c h (W .variables-are))))
+    where
+      as-was : ys ≡ r .variables
+      as-was = rw (b, d, a) (put-back c (r .variables))
+
+-- ---- a call by its tag
+
+-- a call that is no new lets go of nothing
+pub other-call : (c : Call) (x : ℤ) (xs : List ℤ) → (tagOf the-type c ≡ 1) ⊎ (tagOf the-type c ≡ 2) → (xs ≡ setAside c xs) × ((pos 0 ≡ ownWord c xs) × (xs ≡ putBack c x xs))
+other-call (New v) x xs t = absurd (⊎-elim (λ e. omega arith) (λ e. omega arith) t)
+other-call (Do d) x xs t = (refl, (refl, refl))
+other-call Settle x xs t = (refl, (refl, refl))
+
+-- a new lets go of v
+pub new-call : (c : Call) {v : ℕ} (x : ℤ) (xs : List ℤ) → c ≡ New v → (set xs v (negsuc 0) ≡ setAside c xs) × ((getD xs v (pos 0) ≡ ownWord c xs) × (set xs v x ≡ putBack c x xs))
+new-call c x xs n = rw n (refl, (refl, refl))
+
+-- whose variable is there
 pub fits-new : (c : Call) {v m : ℕ} → c ≡ New v → Fits m c → v < m
 fits-new c n f = rw n at f

@@ -4,9 +4,10 @@ use mathlib.Core.Path.{_≡_}
 use mathlib.Core.Bool.{Bool, cond}
 use mathlib.Core.Option.{Option}
 use mathlib.Core.List.{List, map}
-use lib.ListN.{length, replicate}
-use lib.IntN.{ℤ}
+use lib.ListN.{length, getD, set, replicate}
+use lib.IntN.{ℤ, pos, negsuc}
 use Rattle.rules.specs.declared.Call.{Call}
+use Rattle.rules.specs.declared.Call.the-variants.{New, Do, Settle}
 use Rattle.rules.specs.declared.Sizes.{Sizes}
 use Rattle.rules.specs.declared.State.{State}
 use Rattle.rules.specs.Field.{variableOf}
@@ -40,6 +41,24 @@ pub record Settled (s : Sizes) (hs : List (Option ℕ)) (r : Lent) (at : State) 
 -- rows that are a heap are that heap after a settle, which counts the row of variables that is lent
 abbrev pub Settles : Sizes → Lent → State → Lent → State → Type 0
 Settles s r at r′ o = (own : List ℤ) (hs : List (Option ℕ)) (h : Heap) → Whole s (holding own r) at h → r .variables ≡ map variableOf hs → Settled s hs (holding own r′) at h o
+
+-- ---- the settle before a call
+
+-- the row of variables, with v let go before a new; the word that v has there; and the row with that word put back
+abbrev pub setAside : Call → List ℤ → List ℤ
+setAside (New v) xs = set xs v (negsuc 0)
+setAside (Do d) xs = xs
+setAside Settle xs = xs
+
+abbrev pub ownWord : Call → List ℤ → ℤ
+ownWord (New v) xs = getD xs v (pos 0)
+ownWord (Do d) xs = pos 0
+ownWord Settle xs = pos 0
+
+abbrev pub putBack : Call → ℤ → List ℤ → List ℤ
+putBack (New v) x xs = set xs v x
+putBack (Do d) x xs = xs
+putBack Settle x xs = xs
 
 -- all rows are some heap, and a settle can be made before this call
 pub record Roomable (c : Call) (s : Sizes) (r : Lent) (at : State) : Type 0 where

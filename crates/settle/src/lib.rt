@@ -1,12 +1,14 @@
 // A settle: the log's replay, and the reclaiming after it.
 ghost use Prim.Native.Nat.{_<_};
+ghost use mathlib.Core.Path.{_≡_};
 ghost use lib.ListN.{length};
+ghost use Rattle.rules.specs.Call.{Fits};
 ghost use Rattle.rules.specs.Rules.{apply};
 ghost use Rattle.rules.specs.Lending.{tablesNow, tableEntries, tableExits, rowsNow, entries, exits};
 ghost use Rattle.tables.specs.Row.{Tabled, TablesBy};
 ghost use Rattle.cells.specs.Log.{transaction};
 ghost use Rattle.settle.specs.Replaying.{Replayable, Replays};
-ghost use Rattle.settle.specs.Settling.{Settleable, Settles, Roomable, MakesRoom};
+ghost use Rattle.settle.specs.Settling.{Settleable, Settles, setAside, ownWord, putBack, Roomable, MakesRoom};
 use cells::clear;
 use cells::entry_at;
 use cells::mark_held;
@@ -101,6 +103,29 @@ pub fn settle(
     r
 }
 
+// A new lets go of v. The result is the word that v had; 0 for a call that lets go of nothing.
+fn set_aside(call: Call, variables: &mut [i32]) -> i32
+    requires { ⌜ Fits (length (now variables)) call ⌝ }
+    ensures { λ r. ⌜ (now (variables .exit) ≡ setAside call (now (variables .entry))) × (r ≡ ownWord call (now (variables .entry))) ⌝ }
+{
+    let Call::New(v) = call else {
+        return 0;
+    };
+    let own = variables[v];
+    variables[v] = -1;
+    own
+}
+
+// A new's v has that word again.
+fn put_back(call: Call, variables: &mut [i32], own: i32)
+    requires { ⌜ Fits (length (now variables)) call ⌝ }
+    ensures { λ _. ⌜ now (variables .exit) ≡ putBack call own (now (variables .entry)) ⌝ }
+{
+    if let Call::New(v) = call {
+        variables[v] = own;
+    }
+}
+
 // The settle before a call, where one is to be made. It counts what the variables hold; for a new, v is let go while it lasts.
 pub fn settle_for(
     call: Call,
@@ -122,22 +147,7 @@ pub fn settle_for(
     if !make {
         return at;
     }
-    let Call::New(v) = call else {
-        return settle(
-            kinds,
-            values,
-            variables,
-            zct,
-            mrt,
-            counts,
-            log,
-            work,
-            at,
-            sizes,
-        );
-    };
-    let own = variables[v];
-    variables[v] = -1;
+    let own = set_aside(call, variables);
     let room = settle(
         kinds,
         values,
@@ -150,6 +160,6 @@ pub fn settle_for(
         at,
         sizes,
     );
-    variables[v] = own;
+    put_back(call, variables, own);
     room
 }
