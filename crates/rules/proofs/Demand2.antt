@@ -1,6 +1,6 @@
 -- Demand 2 of our heap: tables as the rules give them, exact counts, all and only what may go is freed, 14 exactly when full. Assumes nothing.
 use Prim.Native.Nat.{ℕ, zero, suc, _+_, _*_, _<_, _≤_}
-use mathlib.Core.Path.{_≡_, refl, sym, ap, _∙_, subst}
+use mathlib.Core.Path.{_≡_, refl, sym, ap, ap₂, _∙_, subst}
 use mathlib.Core.Logic.{_↔_}
 use mathlib.Core.Bool.{Bool, true, false}
 use mathlib.Core.Option.{none, some}
@@ -15,7 +15,7 @@ use Rattle.rules.specs.declared.Field.{Field}
 use Rattle.rules.specs.declared.Field.the-variants.{Nothing, Figure, Cell, Free}
 use Rattle.rules.specs.declared.Call.{Call}
 use Rattle.rules.specs.declared.Deed.the-variants.{Clear}
-use Rattle.rules.specs.declared.Call.the-variants.{New, Do}
+use Rattle.rules.specs.declared.Call.the-variants.{New, Do, Settle}
 use Rattle.rules.specs.declared.Sizes.{Sizes}
 use Rattle.rules.specs.Field.{kindOf, variableOf}
 use Rattle.rules.specs.Heap.{Heap, place, field}
@@ -24,9 +24,9 @@ use Rattle.rules.specs.Call.{Answer, AllFit, callOf, callsOf, callsIn, w
 use Rattle.rules.specs.Step.{Stepped, full, noneFree, wants, settledIf, takeCell, doNew, acted, run, step, calls, unfreed, batch}
 use Rattle.rules.specs.Rows.{Lent, rowsOf, headOf, heapOf}
 use Rattle.rules.specs.Sound.{Sound, Sized, heldAmong, times}
-use Rattle.rules.specs.Refusals.{Batched, outcome, answerWords, answered, accepted, batchOf, auditOf, isSound}
+use Rattle.rules.specs.Refusals.{Batched, outcome, leavesWith, answerWords, answered, accepted, batchOf, auditOf, isSound}
 use Rattle.rules.specs.Run.{ours, said}
-use Rattle.rules.specs.Demands.{handedOut, freeCells, SameLeft, Demand2}
+use Rattle.rules.specs.Demands.{handedOut, freeCells, SameFrom, saying, Demand2}
 use Rattle.rules.specs.Invariant.{Inv}
 use Rattle.rules.proofs.Tests.{sound-true, sound-false}
 use Rattle.rules.proofs.Cells.{lives}
@@ -37,8 +37,8 @@ use Rattle.rules.proofs.Whole.{twice}
 use Rattle.rules.proofs.Entry.{entry-ended, exit-ended, exit-sized, exit-sound}
 use Rattle.rules.proofs.Demand1.{Accepts, taken, same-calls, answers-long, audit-0, audit-4, accepted-as, both}
 use Rattle.rules.proofs.Facts as facts
-use Rattle.rules.proofs.Inside.{heapAfter, calls-end, calls-after, status-at, after-inv, pos-same}
-use Rattle.rules.proofs.LetGo.{fourteen-cleared, kept-settled, after-clear}
+use Rattle.rules.proofs.Inside.{heapAfter, calls-after, status-at, value-at, words-from, said-alone, words-but, after-inv, pos-same}
+use Rattle.rules.proofs.LetGo.{after-clear, fourteen-cleared, as-settle, settle-value}
 
 -- ---- free cells and cells in use
 
@@ -74,16 +74,6 @@ handed-in (c ∷ cs) [] rest e = absurd (omega arith)
 handed-in (c ∷ cs) (a ∷ as′) rest e = let i = handed-in cs as′ rest (omega arith) in omega arith
 
 -- ---- an accepted batch
-
--- what is left is told by the heap at its end
-same-left : (h : Head) (r : Lent) (cs ds : List Call) (row : List ℤ) → batch (h .sizes) cs (heapOf h r) .heap ≡ batch (h .sizes) ds (heapOf h r) .heap
-    → SameLeft (accepted h r cs row) (accepted h r ds row)
-unfolding accepted
-same-left h r cs ds row e =
-    record {
-      outcomes = ap (λ (x : Heap). outcome 0 (headOf (h .sizes) x) (x .freed)) e;
-      same-rows = ap (rowsOf (h .sizes)) e;
-    }
 
 module _ {h : Head} {r : Lent} (Z : Sized h r) (S : Sound h r) (cs : List Call) (F : AllFit (h .sizes .m) cs) where
   s : Sizes
@@ -131,10 +121,6 @@ module _ {h : Head} {r : Lent} (Z : Sized h r) (S : Sound h r) (v : ℕ) (k : v 
   new-status : getD (accepted h r (New v ∷ []) row .answers) 0 (negsuc 0) ≡ pos (step (h .sizes) (New v) (heapOf h r) .answer .status)
   unfolding accepted answered batch calls heapOf
   new-status = refl
-
-  first-is : heapOf h r .first ≡ h .free
-  unfolding heapOf
-  first-is = refl
 
   module _ (some-free : h .free < h .sizes .n) where
     -- no settle is needed: the log is empty, and a cell is free
@@ -196,19 +182,47 @@ module _ {h : Head} {r : Lent} (Z : Sized h r) (S : Sound h r) (cs : List Call) 
       let f = fourteen-cleared (h .sizes) (Z .within .limits) v before before-inv in
       rw (status-of ds, heap-of (Do (Clear v) ∷ [])) (λ e. f .0 (pos-same _ _ e), λ e. ap pos (f .1 e))
 
-  keeps : getD (accepted h r (cs ++ New v ∷ []) row .answers) (2 * length cs) (negsuc 0) ≡ pos 14 → SameLeft (accepted h r (cs ++ New v ∷ []) row) (accepted h r cs row)
-  unfolding calls batch before
-  keeps e =
-      let k = kept-settled (h .sizes) (Z .within .limits) v before before-inv (pos-same _ _ (sym (status-of []) ∙ e)) in
-      same-left h r (cs ++ New v ∷ []) cs row (heap-of (New v ∷ []) ∙ k ∙ sym (calls-end (h .sizes) cs (unfreed (heapOf h r))))
+  keeps : (ds : List Call) → getD (accepted h r (cs ++ New v ∷ ds) row .answers) (2 * length cs) (negsuc 0) ≡ pos 14
+      → (accepted h r (cs ++ New v ∷ ds) row ≡ saying (2 * length cs) 14 (accepted h r (cs ++ Settle ∷ ds) row)) × (getD (accepted h r (cs ++ Settle ∷ ds) row .answers) (2 * length cs + 1) (negsuc 0) ≡ pos 0)
+  unfolding accepted answered batch calls before
+  keeps ds e =
+      let s = h .sizes in
+      let ok = Z .within .limits in
+      let k = unfreed (heapOf h r) in
+      let w = pos-same _ _ (sym (status-of ds) ∙ e) in
+      let x = settle-value s ok v before before-inv w in
+      let a = as-settle s ok v before before-inv w in
+      let rest = drop (2 * length (calls s (cs ++ Settle ∷ ds) k .answers)) row in
+      let long : length (calls s (cs ++ New v ∷ ds) k .answers) ≡ length (calls s (cs ++ Settle ∷ ds) k .answers) =
+      answers-long s (cs ++ New v ∷ ds) k ∙ length-append cs (New v ∷ ds) ∙ sym (length-append cs (Settle ∷ ds)) ∙ sym (answers-long s (cs ++ Settle ∷ ds) k) in
+      let same : calls s (cs ++ New v ∷ ds) k .heap ≡ calls s (cs ++ Settle ∷ ds) k .heap =
+      calls-after s cs (New v ∷ ds) k ∙ ap (λ (o : Stepped). calls s ds (o .heap) .heap) a ∙ sym (calls-after s cs (Settle ∷ ds) k) in (
+        rw long (ap₂ (λ (y : Heap) (l : List ℤ). leavesWith (outcome 0 (headOf s y) (y .freed)) (rowsOf s y) l) same (words-but s cs ds (New v) Settle k 14 rest x a)),
+        value-at s cs ds Settle k rest ∙ x,
+      )
 
-  lets-go : (ds : List Call) → getD (accepted h r (cs ++ New v ∷ ds) row .answers) (2 * length cs) (negsuc 0) ≡ pos 0
-      → SameLeft (accepted h r (cs ++ New v ∷ ds) row) (accepted h r (cs ++ Do (Clear v) ∷ New v ∷ ds) row)
-  unfolding calls
-  lets-go ds e =
-      let k = after-clear (h .sizes) (Z .within .limits) v before before-inv (pos-same _ _ (sym (status-of ds) ∙ e)) in
-      same-left h r (cs ++ New v ∷ ds) (cs ++ Do (Clear v) ∷ New v ∷ ds) row
-      (heap-of (New v ∷ ds) ∙ ap (λ (x : Heap). calls (h .sizes) ds x .heap) (sym k) ∙ sym (heap-of (Do (Clear v) ∷ New v ∷ ds)))
+  lets-go : (row′ : List ℤ) (ds : List Call) → getD (accepted h r (cs ++ New v ∷ ds) row .answers) (2 * length cs) (negsuc 0) ≡ pos 0
+      → SameFrom (New v ∷ ds) (2 * length cs) (2 * length cs + 2) (accepted h r (cs ++ New v ∷ ds) row) (accepted h r (cs ++ Do (Clear v) ∷ New v ∷ ds) row′)
+  unfolding accepted answered batch calls before
+  lets-go row′ ds e =
+      let s = h .sizes in
+      let k = unfreed (heapOf h r) in
+      let es = New v ∷ ds in
+      let c = after-clear s (Z .within .limits) v before before-inv (pos-same _ _ (sym (status-of ds) ∙ e)) in
+      let same : calls s (cs ++ es) k .heap ≡ calls s (cs ++ Do (Clear v) ∷ es) k .heap =
+      calls-after s cs es k ∙ ap (λ (o : Stepped). calls s ds (o .heap) .heap) (sym c) ∙ sym (calls-after s cs (Do (Clear v) ∷ es) k) in
+      let z : 2 * length cs + 0 ≡ 2 * length cs = omega arith in
+      let rest = drop (2 * length (calls s (cs ++ es) k .answers)) row in
+      let rest′ = drop (2 * length (calls s (cs ++ Do (Clear v) ∷ es) k .answers)) row′ in
+      record {
+        outcomes = ap (λ (y : Heap). outcome 0 (headOf s y) (y .freed)) same;
+        same-rows = ap (rowsOf s) same;
+        same-said =
+            ap (said es) (rw z at (words-from s cs es k rest 0))
+            ∙ said-alone s es before rest rest′
+            ∙ ap (λ (o : Stepped). said es (pos (o .answer .status) ∷ o .answer .value ∷ (answerWords (calls s ds (o .heap) .answers) ++ rest′))) (sym c)
+            ∙ sym (ap (said es) (words-from s cs (Do (Clear v) ∷ es) k rest′ 2));
+      }
 
 -- ---- the demand
 
@@ -237,15 +251,19 @@ demand-2 =
           let q = same-calls h r ws row (t .callable .calls) cs (t .callable .decoded) e in
           rw (t .left, ← q) (count-freed (t .sized) (t .sound) (t .callable .calls) (taken-fit t) row);
       handed-out-again = λ h r v row Z S k room f. handed Z S v k row room f;
-      new-lets-go = λ h r us ws row cs ds v d e a o.
-          let B = both h r ws us row (cs ++ New v ∷ ds) (cs ++ Do (Clear v) ∷ New v ∷ ds) e d (let l = length-append cs (New v ∷ ds) in let m = length-append cs (Do (Clear v) ∷ New v ∷ ds) in omega arith) a in
-          rw (B .left, B .left′) (lets-go (B .sized) (B .sound) cs (fit-parts (h .sizes .m) cs (Do (Clear v) ∷ New v ∷ ds) (B .fit) .0) v row ds (rw (B .left′) at o));
+      new-lets-go = λ h r us ws row row′ cs ds v d e b a o.
+          let t = taken h r ws row a in
+          let u = taken h r us row′ b in
+          let q = same-calls h r ws row (t .callable .calls) (cs ++ New v ∷ ds) (t .callable .decoded) e in
+          let p = same-calls h r us row′ (u .callable .calls) (cs ++ Do (Clear v) ∷ New v ∷ ds) (u .callable .decoded) d in
+          let F = fit-parts (h .sizes .m) cs (New v ∷ ds) (calls-in-fit (h .sizes .m) ws (cs ++ New v ∷ ds) e) .0 in
+          rw (t .left, q, u .left, p) (lets-go (t .sized) (t .sound) cs F v row row′ ds (rw (t .left, q) at o));
       fourteen-exactly = λ h r us ws row cs ds v d e a.
           let B = both h r us ws row (cs ++ Do (Clear v) ∷ []) (cs ++ New v ∷ ds) d e (let l = length-append cs (New v ∷ ds) in let m = length-append cs (Do (Clear v) ∷ []) in omega arith) a in
           rw (B .left, B .left′) (fourteen (B .sized) (B .sound) cs (fit-parts (h .sizes .m) cs (New v ∷ ds) (B .fit) .0) v row ds);
-      fourteen-keeps = λ h r us ws row cs v d e a o.
-          let B = both h r us ws row cs (cs ++ New v ∷ []) d e (let l = length-append cs (New v ∷ []) in omega arith) a in
-          rw (B .left, B .left′) (keeps (B .sized) (B .sound) cs (fit-parts (h .sizes .m) cs (New v ∷ []) (B .fit) .0) v row (rw (B .left) at o));
+      fourteen-keeps = λ h r us ws row cs ds v d e a o.
+          let B = both h r us ws row (cs ++ Settle ∷ ds) (cs ++ New v ∷ ds) d e (let l = length-append cs (New v ∷ ds) in let m = length-append cs (Settle ∷ ds) in omega arith) a in
+          rw (B .left, B .left′) (keeps (B .sized) (B .sound) cs (fit-parts (h .sizes .m) cs (New v ∷ ds) (B .fit) .0) v row ds (rw (B .left) at o));
       audit-exactly = λ h r Z. (audit-yes h r Z, λ S. ap (λ o. o .outcome .status) (audit-0 h r Z S));
     }
   where

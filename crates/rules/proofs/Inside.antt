@@ -8,7 +8,7 @@ use mathlib.Core.List.{List, [], _∷_, _++_}
 use native.Mathlib.Omega.{arith}
 use lib.Dec.{eqb}
 use lib.IntN.{ℤ, pos, negsuc}
-use lib.ListN.{length, getD, List·getD-map}
+use lib.ListN.{length, getD, set, drop, List·getD-map}
 use borrow.Author.Tests.{eqb-true}
 use Rattle.rules.specs.declared.Field.{Field}
 use Rattle.rules.specs.declared.Field.the-variants.{Nothing, Figure, Cell, Free}
@@ -25,7 +25,7 @@ use Rattle.rules.specs.Call.{AllFit, unless, var, at, isHeld, noFigure, 
 use Rattle.rules.specs.Step.{refused, doDeed, acted, run, step, calls}
 use Rattle.rules.specs.Rows.{rowsOf}
 use Rattle.rules.specs.Refusals.{answerWords}
-use Rattle.rules.specs.Run.{said}
+use Rattle.rules.specs.Run.{Said, said}
 use Rattle.rules.specs.Sound.{kind}
 use Rattle.rules.specs.Demands.{AllListed, Finds, ReadSays}
 use Rattle.rules.specs.Invariant.{live, Inv}
@@ -64,6 +64,41 @@ module _ (s : Sizes) where
   status-at (b ∷ cs) ds c h rest =
       let two : 2 * suc (length cs) ≡ suc (suc (2 * length cs)) = omega arith in
       rw two (status-at cs ds c (step s b h .heap) rest)
+
+  -- and the word beside it
+  pub value-at : (cs ds : List Call) (c : Call) (h : Heap) (rest : List ℤ)
+      → getD (answerWords (calls s (cs ++ c ∷ ds) h .answers) ++ rest) (2 * length cs + 1) (negsuc 0) ≡ step s c (heapAfter s cs h) .answer .value
+  unfolding calls heapAfter
+  value-at [] ds c h rest = refl
+  value-at (b ∷ cs) ds c h rest =
+      let two : 2 * suc (length cs) + 1 ≡ suc (suc (2 * length cs + 1)) = omega arith in
+      rw two (value-at cs ds c (step s b h .heap) rest)
+
+  -- the words from there on
+  pub words-from : (cs ds : List Call) (h : Heap) (rest : List ℤ) (j : ℕ)
+      → drop (2 * length cs + j) (answerWords (calls s (cs ++ ds) h .answers) ++ rest) ≡ drop j (answerWords (calls s ds (heapAfter s cs h) .answers) ++ rest)
+  unfolding calls heapAfter
+  words-from [] ds h rest j = let z : 2 * 0 + j ≡ j = omega arith in ap (λ (i : ℕ). drop i (answerWords (calls s ds h .answers) ++ rest)) z
+  words-from (c ∷ cs) ds h rest j =
+      let two : 2 * suc (length cs) + j ≡ suc (suc (2 * length cs + j)) = omega arith in
+      rw two (words-from cs ds (step s c h .heap) rest j)
+
+  -- what follows the answers is not said
+  pub said-alone : (cs : List Call) (h : Heap) (rest rest′ : List ℤ) → said cs (answerWords (calls s cs h .answers) ++ rest) ≡ said cs (answerWords (calls s cs h .answers) ++ rest′)
+  unfolding calls
+  said-alone [] h rest rest′ = refl
+  said-alone (c ∷ cs) h rest rest′ =
+      ap (λ (l : List Said). record { call = c; status = pos (step s c h .answer .status); value = step s c h .answer .value } ∷ l) (said-alone cs (step s c h .heap) rest rest′)
+
+  -- two calls that differ in their status alone
+  pub words-but : (cs ds : List Call) (c d : Call) (h : Heap) (k : ℕ) (rest : List ℤ) → step s d (heapAfter s cs h) .answer .value ≡ pos 0
+      → step s c (heapAfter s cs h) ≡ refused (step s d (heapAfter s cs h) .heap) k
+      → answerWords (calls s (cs ++ c ∷ ds) h .answers) ++ rest ≡ set (answerWords (calls s (cs ++ d ∷ ds) h .answers) ++ rest) (2 * length cs) (pos k)
+  unfolding calls heapAfter
+  words-but [] ds c d h k rest x e = rw (e, x)
+  words-but (b ∷ cs) ds c d h k rest x e =
+      let two : 2 * suc (length cs) ≡ suc (suc (2 * length cs)) = omega arith in
+      rw (two, words-but cs ds c d (step s b h .heap) k rest x e)
 
   -- each call is answered 0, or with one of its reasons
   pub all-listed : (cs : List Call) (h : Heap) (rest : List ℤ) → AllListed (said cs (answerWords (calls s cs h .answers) ++ rest))

@@ -38,6 +38,14 @@ pick-none hs (x ∷ z) e a i = go (holds x hs) refl e (pick-none hs z)
         at false f i = h e a i
     go false d e h = absurd (let w : _≡_ {A = ℕ} 0 1 = cc in omega arith)
 
+-- what no cell is left for, none is left for with more holds
+pub pick-more : (hs ks : List (Option ℕ)) (z : List ℕ) → ((b : ℕ) → holds b hs ≡ true → holds b ks ≡ true) → pick hs z ≡ none → pick ks z ≡ none
+pick-more hs ks z m e = go (pick ks z) refl
+  where
+    go : (o : Option ℕ) → pick ks z ≡ o → pick ks z ≡ none
+    go none d = d
+    go (some a) d = let p = pick-some ks z a d in absurd (true≢false (sym (m a (pick-none hs z e a (p .0))) ∙ p .1))
+
 -- the cell that reclaiming takes is the smallest that no hold names
 pub pick-least : (hs : List (Option ℕ)) (z : List ℕ) (a b : ℕ) → Ascending z → pick hs z ≡ some a → has b z ≡ true → holds b hs ≡ false → a ≤ b
 pick-least hs [] a b s e i u = absurd (false≢true i)
@@ -80,6 +88,12 @@ reclaim-having cap hs vs (suc k) h = go (pick hs (h .tables .zct)) (reclaim-havi
     go : (o : Option ℕ) → ((h : Heap) → reclaim cap hs k (having vs h) ≡ having vs (reclaim cap hs k h)) → turn (having vs h) o ≡ having vs (turn h o)
     go none ih = refl
     go (some a) ih = ap (reclaim cap hs k) (free-having a) ∙ ih (freeCell cap a h)
+
+-- with nothing to take, nothing is done
+pub reclaim-idle : (cap : ℕ) (hs : List (Option ℕ)) (k : ℕ) (h : Heap) → Done hs h → reclaim cap hs k h ≡ h
+unfolding reclaim
+reclaim-idle cap hs zero h d = refl
+reclaim-idle cap hs (suc k) h d = rw d
 
 -- one turn more, seen from its end
 pub reclaim-last : (cap : ℕ) (hs : List (Option ℕ)) (k : ℕ) (h : Heap)

@@ -112,7 +112,7 @@ module _ (s : Sizes) (ok : Limits s) (hs : List (Option ℕ)) (h : Heap)
 abbrev pub counting : Call → Heap → Heap
 counting c h = having (counted c h) h
 
--- the heap, so counted, in which a call is then done
+-- the heap after the settle before a call, if one is made; before a new with v let go
 abbrev pub readied : Sizes → Call → Heap → Heap
 readied s c h = settledIf (wants s c h) s (counted c h) (counting c h)
 

@@ -10,13 +10,13 @@ use lib.ListN.{getD}
 use Rattle.rules.specs.declared.Head.{Head}
 use Rattle.rules.specs.declared.Deed.the-variants.{Clear, Link, Put, Follow, Read}
 use Rattle.rules.specs.declared.Call.{Call}
-use Rattle.rules.specs.declared.Call.the-variants.{New, Do}
+use Rattle.rules.specs.declared.Call.the-variants.{New, Do, Settle}
 use Rattle.rules.specs.Head.{freshHead, sized}
-use Rattle.rules.specs.Sound.{Sound, Sized, Word, heldAmong}
+use Rattle.rules.specs.Sound.{Sound, Word, heldAmong}
 use Rattle.rules.specs.Decide.{sound?, sized?, dec-word}
 use Rattle.rules.specs.Demands.{Demand1, Demand2, Demand3, AllListed, Finds, freeCells}
 use Rattle.rules.specs.Worthless.{saysFour, saysFourteen, answersNought, freesNothing, freesOnce, madeUpCount, thirteenForNothing, fifteenForCell, fifteenForEleven, fifteenForTwelve, countsOwnHold, countsForRoom, countsNoHold, clearsAtFourteen}
-use Rattle.rules.proofs.Tests.{sized-true, sound-true}
+use Rattle.rules.proofs.Tests.{sound-true}
 use Rattle.rules.specs.Rows as R
 use Rattle.rules.specs.Rules as U
 use Rattle.rules.specs.Settle as S
@@ -39,10 +39,6 @@ h₁ = record { sizes = sized 1 1 2 3; free = 1; zct = 1; mrt = 0 }
 
 abbrev r₁ : R.Lent
 r₁ = R.lent (0 ∷ 0 ∷ []) (pos 0 ∷ pos 0 ∷ []) (pos 0 ∷ []) (0 ∷ []) (0 ∷ []) (0 ∷ []) (0 ∷ 0 ∷ 0 ∷ 0 ∷ []) (0 ∷ [])
-
-sized₀ : Sized h₀ r₀
-unfolding F.isSized sized?
-sized₀ = sized-true h₀ r₀ refl
 
 sound₀ : Sound h₀ r₀
 unfolding F.isSound sound? dec-word Word
@@ -85,6 +81,9 @@ r₂ = R.lent (0 ∷ 0 ∷ []) (pos 0 ∷ pos 0 ∷ []) (pos 0 ∷ pos 0 ∷ [])
 
 abbrev new₀ : List ℤ
 new₀ = C.wordsOf (New 0 ∷ [])
+
+abbrev settle₀ : List ℤ
+settle₀ = C.wordsOf (Settle ∷ [])
 
 -- a fresh heap of three cells and one variable: the third new finds the log full and a cell free
 abbrev h₃ : Head
@@ -145,20 +144,21 @@ record Computed : Type 0 where
   own-free : countsOwnHold .batch h₁ r₁ clear₀ two .outcome .head .free ≡ 0
   two-new : C.callsIn 2 new₀ ≡ some (New 0 ∷ [])
   two-clear : C.callsIn 2 clear₀ ≡ some (Do (Clear 0) ∷ [])
-  two-none : C.callsIn 2 [] ≡ some []
+  two-settle : C.callsIn 2 settle₀ ≡ some (Settle ∷ [])
   no-hold-accepted : countsNoHold .batch h₂ r₂ new₀ two .outcome .status ≡ 0
   no-hold-0 : getD (countsNoHold .batch h₂ r₂ new₀ two .answers) 0 (negsuc 0) ≡ pos 0
   no-hold-full : countsNoHold .batch h₂ r₂ clear₀ two .outcome .head .free ≡ 1
   room-new : C.callsIn 1 threeNews ≡ some (news ++ New 0 ∷ [])
   room-clear : C.callsIn 1 clearedNews ≡ some (news ++ Do (Clear 0) ∷ New 0 ∷ [])
   room-accepted : countsForRoom .batch h₃ r₃ clearedNews eight .outcome .status ≡ 0
-  room-0 : getD (countsForRoom .batch h₃ r₃ threeNews eight .answers) 4 (negsuc 0) ≡ pos 0
-  room-holds-0 : countsForRoom .batch h₃ r₃ threeNews eight .rows .variables ≡ pos 0 ∷ []
+  news-accepted : countsForRoom .batch h₃ r₃ threeNews six .outcome .status ≡ 0
+  room-0 : getD (countsForRoom .batch h₃ r₃ threeNews six .answers) 4 (negsuc 0) ≡ pos 0
+  room-holds-0 : countsForRoom .batch h₃ r₃ threeNews six .rows .variables ≡ pos 0 ∷ []
   room-holds-1 : countsForRoom .batch h₃ r₃ clearedNews eight .rows .variables ≡ pos 1 ∷ []
   clearing-accepted : clearsAtFourteen .batch h₂ r₂ new₀ two .outcome .status ≡ 0
   clearing-14 : getD (clearsAtFourteen .batch h₂ r₂ new₀ two .answers) 0 (negsuc 0) ≡ pos 14
   clearing-none : clearsAtFourteen .batch h₂ r₂ new₀ two .rows .variables ≡ negsuc 0 ∷ pos 0 ∷ []
-  clearing-held : clearsAtFourteen .batch h₂ r₂ [] two .rows .variables ≡ pos 0 ∷ pos 0 ∷ []
+  clearing-held : clearsAtFourteen .batch h₂ r₂ settle₀ two .rows .variables ≡ pos 0 ∷ pos 0 ∷ []
 
 computed : Computed
 unfolding F.isSized F.isSound sound? sized? dec-word Word F.batchOf F.checkCalls F.checkAnswers F.checkSound F.accepted F.answered R.rowsOf R.headOf R.heapOf C.callOf C.callsOf C.callsIn U.enterZct U.leaveZct U.enterMrt U.leaveMrt U.onCreate U.onDestroy U.apply U.replay H.place H.field H.store S.freeCell S.reclaim S.replayed S.settledBy S.settled C.var C.at C.refuses C.logs C.write C.hold C.act C.value T.full T.noneFree T.wants T.settledIf T.takeCell T.doNew T.doDeed T.acted T.run T.step T.calls T.batch T.freeFrom T.fresh N.runFrom N.runOf N.saidIn E.endless E.endlessRun E.endlessStep F.freshOf
@@ -202,13 +202,14 @@ computed =
       own-free = refl;
       two-new = refl;
       two-clear = refl;
-      two-none = refl;
+      two-settle = refl;
       no-hold-accepted = refl;
       no-hold-0 = refl;
       no-hold-full = refl;
       room-new = refl;
       room-clear = refl;
       room-accepted = refl;
+      news-accepted = refl;
       room-0 = refl;
       room-holds-0 = refl;
       room-holds-1 = refl;
@@ -304,7 +305,7 @@ worthless-counts-no-hold d =
 -- v's own hold counted for room in the log: the third new takes cell 0, and after clear v cell 1
 pub worthless-counts-for-room : Demand2 countsForRoom → ⊥
 worthless-counts-for-room d =
-    let e = d .new-lets-go h₃ r₃ clearedNews threeNews eight news [] 0 (computed .room-clear) (computed .room-new) (computed .room-accepted) (computed .room-0) in
+    let e = d .new-lets-go h₃ r₃ clearedNews threeNews six eight news [] 0 (computed .room-clear) (computed .room-new) (computed .room-accepted) (computed .news-accepted) (computed .room-0) in
     let f = sym (computed .room-holds-0) ∙ ap (λ (r : R.Lent). r .variables) (e .same-rows) ∙ computed .room-holds-1 in
     let z : _≡_ {A = ℕ} 0 1 = cc in
     omega arith
@@ -312,7 +313,7 @@ worthless-counts-for-room d =
 -- v cleared at 14
 pub worthless-clears-at-14 : Demand2 clearsAtFourteen → ⊥
 worthless-clears-at-14 d =
-    let e = d .fourteen-keeps h₂ r₂ [] new₀ two [] 0 (computed .two-none) (computed .two-new) (computed .clearing-accepted) (computed .clearing-14) in
-    let f = sym (computed .clearing-none) ∙ ap (λ (r : R.Lent). r .variables) (e .same-rows) ∙ computed .clearing-held in
+    let e = d .fourteen-keeps h₂ r₂ settle₀ new₀ two [] [] 0 (computed .two-settle) (computed .two-new) (computed .clearing-accepted) (computed .clearing-14) .0 in
+    let f = sym (computed .clearing-none) ∙ ap (λ (o : F.Batched). o .rows .variables) e ∙ computed .clearing-held in
     let z : _≡_ {A = ℕ} 0 1 = cc in
     omega arith

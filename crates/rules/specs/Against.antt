@@ -48,11 +48,11 @@ pub record LooksRight : Type 0 where
   pub tables-ascend : ends 4 (New 0 ∷ New 1 ∷ Do (Link 0 0 1) ∷ New 2 ∷ Settle ∷ Do (Blank 0 0) ∷ []) .heap .tables .zct ≡ 0 ∷ 1 ∷ 2 ∷ []
   -- counting v's own hold in the settle for a new, for lack of a free cell (P2 too) or for room in the log
   pub new-lets-go-of-its-cell : ends 1 (New 0 ∷ New 0 ∷ New 0 ∷ []) .heap .freed ≡ 2
-  pub for-room-too : ends 8 (New 0 ∷ New 0 ∷ New 0 ∷ New 0 ∷ New 0 ∷ []) .heap .freed ≡ 4
+  pub for-room-too : ends 8 (New 0 ∷ New 0 ∷ New 0 ∷ New 0 ∷ New 0 ∷ []) .heap .shape .variables ≡ some 3 ∷ none ∷ none ∷ []
   -- leaving out another variable's hold, or clearing v at 14: variable 0 holds the cell too, and both keep it
   pub others-holds-count : ends 1 held-twice .heap .freed ≡ 0
   pub kept-at-14 : ends 1 held-twice .heap .shape .variables ≡ some 0 ∷ some 0 ∷ none ∷ []
   -- leaving out a hold in the settle at a batch's end, of the call settle, or before a link: no cell goes that a variable holds
   pub the-end-counts-all : ends 4 (New 0 ∷ []) .heap .freed ≡ 0
   pub settle-counts-all : ends 4 (New 0 ∷ Settle ∷ []) .heap .freed ≡ 0
-  pub a-link-counts-all : ends 4 (take 4 two ++ (Do (Link 1 0 0) ∷ [])) .heap .freed ≡ 0
+  pub a-link-counts-all : ends 4 (take 4 two ++ (Do (Link 0 0 0) ∷ [])) .heap .freed ≡ 0

@@ -5,7 +5,7 @@ use mathlib.Core.Logic.{_↔_}
 use mathlib.Core.Bool.{Bool, true, false, cond}
 use mathlib.Core.Option.{none, some}
 use mathlib.Core.List.{List, [], _∷_, _++_}
-use lib.ListN.{length, getD, drop, replicate}
+use lib.ListN.{length, getD, set, drop, replicate}
 use lib.IntN.{ℤ, pos, negsuc}
 use Rattle.rules.specs.declared.Head.{Head}
 use Rattle.rules.specs.declared.Sizes.{Sizes}
@@ -128,10 +128,15 @@ handedOut (a ∷ as′) = cond (isNew (a .call)) (cond (isNought (a .status)) 1 
 abbrev pub freeCells : Lent → ℕ
 freeCells r = times 3 (r .kinds)
 
--- two batches leave the same heap: head, count and every row
-pub record SameLeft (o p : Batched) : Type 0 where
+-- two batches leave the same heap, head, count and every row, and say the same to the calls ds, which start at word i of one answers row and at word j of the other
+pub record SameFrom (ds : List Call) (i j : ℕ) (o p : Batched) : Type 0 where
   pub outcomes : o .outcome ≡ p .outcome
   pub same-rows : o .rows ≡ p .rows
+  pub same-said : said ds (drop i (o .answers)) ≡ said ds (drop j (p .answers))
+
+-- the same, with k at word i of the answers row
+abbrev pub saying : ℕ → ℕ → Batched → Batched
+saying i k o = leavesWith (o .outcome) (o .rows) (set (o .answers) i (pos k))
 
 pub record Demand2 (H : Heaps) : Type 0 where
   -- what the rules give: tables, free list, fields, answers and count
@@ -149,20 +154,22 @@ pub record Demand2 (H : Heaps) : Type 0 where
   -- free cells are handed out again: a new takes the first
   pub handed-out-again : (h : Head) (r : Lent) (v : ℕ) (row : List ℤ) → Sized h r → Sound h r → v < h .sizes .m → 2 ≤ length row → h .free < h .sizes .n
       → (getD (H .batch h r (wordsOf (New v ∷ [])) row .answers) 0 (negsuc 0) ≡ pos 0) × (getD (H .batch h r (wordsOf (New v ∷ [])) row .rows .variables) v (negsuc 0) ≡ pos (h .free))
-  -- the settle made for a new v, for room in the log or for lack of a free cell, does not count v's own hold: a new v answered 0,
-  -- wherever it stands in an accepted batch, has done what clear v and then new v do, in every row, in the head and in the count
-  pub new-lets-go : (h : Head) (r : Lent) (us ws row : List ℤ) (cs ds : List Call) (v : ℕ)
-      → callsIn (h .sizes .m) us ≡ some (cs ++ Do (Clear v) ∷ New v ∷ ds) → callsIn (h .sizes .m) ws ≡ some (cs ++ New v ∷ ds) → H .batch h r us row .outcome .status ≡ 0
-      → getD (H .batch h r ws row .answers) (2 * length cs) (negsuc 0) ≡ pos 0 → SameLeft (H .batch h r ws row) (H .batch h r us row)
+  -- the settle made for a new v, for room in the log or for lack of a free cell, does not count v's own hold: a new v answered 0, wherever it stands in an
+  -- accepted batch, has done what clear v and then new v do (where that batch, of one call more, is accepted too)
+  pub new-lets-go : (h : Head) (r : Lent) (us ws row row′ : List ℤ) (cs ds : List Call) (v : ℕ)
+      → callsIn (h .sizes .m) us ≡ some (cs ++ Do (Clear v) ∷ New v ∷ ds) → callsIn (h .sizes .m) ws ≡ some (cs ++ New v ∷ ds)
+      → H .batch h r us row′ .outcome .status ≡ 0 → H .batch h r ws row .outcome .status ≡ 0 → getD (H .batch h r ws row .answers) (2 * length cs) (negsuc 0) ≡ pos 0
+      → SameFrom (New v ∷ ds) (2 * length cs) (2 * length cs + 2) (H .batch h r ws row) (H .batch h r us row′)
   -- 14 is given exactly if no cell is free after that settle, which counts every variable but v: if the batch of the calls before, with clear v
   -- after them, leaves none free
   pub fourteen-exactly : (h : Head) (r : Lent) (us ws row : List ℤ) (cs ds : List Call) (v : ℕ)
       → callsIn (h .sizes .m) us ≡ some (cs ++ Do (Clear v) ∷ []) → callsIn (h .sizes .m) ws ≡ some (cs ++ New v ∷ ds) → H .batch h r ws row .outcome .status ≡ 0
       → (getD (H .batch h r ws row .answers) (2 * length cs) (negsuc 0) ≡ pos 14) ↔ (H .batch h r us row .outcome .head .free ≡ h .sizes .n)
-  -- and then v keeps its cell: v's variable, its cell with its fields and all else are what the batch of the calls before leaves
-  pub fourteen-keeps : (h : Head) (r : Lent) (us ws row : List ℤ) (cs : List Call) (v : ℕ)
-      → callsIn (h .sizes .m) us ≡ some cs → callsIn (h .sizes .m) ws ≡ some (cs ++ New v ∷ []) → H .batch h r ws row .outcome .status ≡ 0
-      → getD (H .batch h r ws row .answers) (2 * length cs) (negsuc 0) ≡ pos 14 → SameLeft (H .batch h r ws row) (H .batch h r us row)
+  -- and then v keeps its cell, and nothing is freed: the batch is the one with the call settle in the place of that new, settle's value nought, but that it says 14 there
+  pub fourteen-keeps : (h : Head) (r : Lent) (us ws row : List ℤ) (cs ds : List Call) (v : ℕ)
+      → callsIn (h .sizes .m) us ≡ some (cs ++ Settle ∷ ds) → callsIn (h .sizes .m) ws ≡ some (cs ++ New v ∷ ds) → H .batch h r ws row .outcome .status ≡ 0
+      → getD (H .batch h r ws row .answers) (2 * length cs) (negsuc 0) ≡ pos 14
+      → (H .batch h r ws row ≡ saying (2 * length cs) 14 (H .batch h r us row)) × (getD (H .batch h r us row .answers) (2 * length cs + 1) (negsuc 0) ≡ pos 0)
   -- the audit says yes exactly for a sound heap
   pub audit-exactly : (h : Head) (r : Lent) → Sized h r → (H .audit h r .outcome .status ≡ 0 → Sound h r) × (Sound h r → H .audit h r .outcome .status ≡ 0)
 

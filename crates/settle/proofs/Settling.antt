@@ -106,8 +106,8 @@ settleable {r = r} {h = h} W few = record { heap = h; own = r .variables; holds 
 -- ---- the settle before a call
 
 -- the rows of cells and tables, with these variables, log and work row
-abbrev variabled : List ℤ → HeapRows → List ℕ → List ℕ → Lent
-variabled vs r log work = record { kinds = r .kinds; values = r .values; variables = vs; tables = r .tables; log = log; work = work }
+abbrev withVariables : List ℤ → HeapRows → List ℕ → List ℕ → Lent
+withVariables vs r log work = record { kinds = r .kinds; values = r .values; variables = vs; tables = r .tables; log = log; work = work }
 
 -- where none is made the rows stay
 pub room-as-is : (c : Call) {make : Bool} {s : Sizes} {r : Lent} {at : State} → make ≡ false → MakesRoom c make s r at r at
@@ -143,7 +143,7 @@ module _ (c : Call) {s : Sizes} {r : Lent} {at : State} where
 
   pub room-by : {make : Bool} {x : ℤ} {xs ys : List ℤ} {r′ : HeapRows} {log work : List ℕ} {o : State} → make ≡ true
       → xs ≡ setAside c (r .variables) → x ≡ ownWord c (r .variables) → ys ≡ putBack c x xs
-      → Settles s (holding xs r) at (variabled xs r′ log work) o → MakesRoom c make s r at (variabled ys r′ log work) o
+      → Settles s (holding xs r) at (withVariables xs r′ log work) o → MakesRoom c make s r at (withVariables ys r′ log work) o
   room-by {x = x} {xs} {ys} e a d b S h W = rw as-was (room-made e (S (r .variables) (counted c h) h W (a ∙ aside-counted c h (W .variables-are))))
     where
       as-was : ys ≡ r .variables
