@@ -37,8 +37,8 @@ use Rattle.rules.proofs.Whole.{twice}
 use Rattle.rules.proofs.Entry.{entry-ended, exit-ended, exit-sized, exit-sound}
 use Rattle.rules.proofs.Demand1.{Accepts, taken, same-calls, answers-long, audit-0, audit-4, accepted-as, both}
 use Rattle.rules.proofs.Facts as facts
-use Rattle.rules.proofs.Inside.{heapAfter, calls-after, status-at, value-at, words-from, said-alone, words-but, after-inv, pos-same}
-use Rattle.rules.proofs.LetGo.{after-clear, fourteen-cleared, as-settle, settle-value}
+use Rattle.rules.proofs.Inside.{heapAfter, calls-end, calls-after, status-at, value-at, words-from, said-alone, words-but, after-inv, pos-same}
+use Rattle.rules.proofs.LetGo.{after-clear, fourteen-cleared, kept-settled, as-settle, settle-value}
 
 -- ---- free cells and cells in use
 
@@ -182,10 +182,20 @@ module _ {h : Head} {r : Lent} (Z : Sized h r) (S : Sound h r) (cs : List Call) 
       let f = fourteen-cleared (h .sizes) (Z .within .limits) v before before-inv in
       rw (status-of ds, heap-of (Do (Clear v) ∷ [])) (λ e. f .0 (pos-same _ _ e), λ e. ap pos (f .1 e))
 
-  keeps : (ds : List Call) → getD (accepted h r (cs ++ New v ∷ ds) row .answers) (2 * length cs) (negsuc 0) ≡ pos 14
+  keeps : getD (accepted h r (cs ++ New v ∷ []) row .answers) (2 * length cs) (negsuc 0) ≡ pos 14
+      → (accepted h r (cs ++ New v ∷ []) row .outcome ≡ accepted h r cs row .outcome) × (accepted h r (cs ++ New v ∷ []) row .rows ≡ accepted h r cs row .rows)
+  unfolding accepted batch calls before
+  keeps e =
+      let s = h .sizes in
+      let k = unfreed (heapOf h r) in
+      let a = kept-settled s (Z .within .limits) v before before-inv (pos-same _ _ (sym (status-of []) ∙ e)) in
+      let same : calls s (cs ++ New v ∷ []) k .heap ≡ calls s cs k .heap = calls-after s cs (New v ∷ []) k ∙ a ∙ sym (calls-end s cs k) in
+      (ap (λ (y : Heap). outcome 0 (headOf s y) (y .freed)) same, ap (rowsOf s) same)
+
+  settles : (ds : List Call) → getD (accepted h r (cs ++ New v ∷ ds) row .answers) (2 * length cs) (negsuc 0) ≡ pos 14
       → (accepted h r (cs ++ New v ∷ ds) row ≡ saying (2 * length cs) 14 (accepted h r (cs ++ Settle ∷ ds) row)) × (getD (accepted h r (cs ++ Settle ∷ ds) row .answers) (2 * length cs + 1) (negsuc 0) ≡ pos 0)
   unfolding accepted answered batch calls before
-  keeps ds e =
+  settles ds e =
       let s = h .sizes in
       let ok = Z .within .limits in
       let k = unfreed (heapOf h r) in
@@ -261,9 +271,12 @@ demand-2 =
       fourteen-exactly = λ h r us ws row cs ds v d e a.
           let B = both h r us ws row (cs ++ Do (Clear v) ∷ []) (cs ++ New v ∷ ds) d e (let l = length-append cs (New v ∷ ds) in let m = length-append cs (Do (Clear v) ∷ []) in omega arith) a in
           rw (B .left, B .left′) (fourteen (B .sized) (B .sound) cs (fit-parts (h .sizes .m) cs (New v ∷ ds) (B .fit) .0) v row ds);
-      fourteen-keeps = λ h r us ws row cs ds v d e a o.
+      fourteen-keeps = λ h r us ws row cs v d e a o.
+          let B = both h r us ws row cs (cs ++ New v ∷ []) d e (let l = length-append cs (New v ∷ []) in omega arith) a in
+          rw (B .left, B .left′) (keeps (B .sized) (B .sound) cs (fit-parts (h .sizes .m) cs (New v ∷ []) (B .fit) .0) v row (rw (B .left) at o));
+      fourteen-settles = λ h r us ws row cs ds v d e a o.
           let B = both h r us ws row (cs ++ Settle ∷ ds) (cs ++ New v ∷ ds) d e (let l = length-append cs (New v ∷ ds) in let m = length-append cs (Settle ∷ ds) in omega arith) a in
-          rw (B .left, B .left′) (keeps (B .sized) (B .sound) cs (fit-parts (h .sizes .m) cs (New v ∷ ds) (B .fit) .0) v row ds (rw (B .left) at o));
+          rw (B .left, B .left′) (settles (B .sized) (B .sound) cs (fit-parts (h .sizes .m) cs (New v ∷ ds) (B .fit) .0) v row ds (rw (B .left) at o));
       audit-exactly = λ h r Z. (audit-yes h r Z, λ S. ap (λ o. o .outcome .status) (audit-0 h r Z S));
     }
   where

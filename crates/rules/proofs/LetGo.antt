@@ -14,6 +14,7 @@ use Rattle.rules.specs.declared.Call.the-variants.{New, Do, Settle}
 use Rattle.rules.specs.declared.Sizes.{Sizes}
 use Rattle.rules.specs.Head.{Limits}
 use Rattle.rules.specs.Heap.{Heap}
+use Rattle.rules.specs.Rules.{replay}
 use Rattle.rules.specs.Settle.{holds, replayed, settledBy, settled}
 use Rattle.rules.specs.Call.{refuses, logs, act, hold}
 use Rattle.rules.specs.Step.{Stepped, done, refused, full, noneFree, wants, counted, settledIf, settledFor, doDeed, acted, run, step}
@@ -58,6 +59,11 @@ module _ (s : Sizes) (ok : Limits s) (v : ℕ) (h : Heap) (g : Inv s h) where
       (λ e. same-first ∙ eqb-true _ _ (f .0 e), λ e. f .1 (eq-eqb _ _ (sym same-first ∙ e)))
 
   module _ (e : step s (New v) h .answer .status ≡ 14) where
+    -- a settle after it is the settle without that new
+    pub kept-settled : settled s (step s (New v) h .heap) ≡ settled s h
+    unfolding settled settledBy replayed replay
+    kept-settled = ap (settled s) (fourteen-keeps s ok v h g e)
+
     none-left : Done (counted (New v) h) (replayed (s .cap) h)
     none-left =
         let G = counting-inv s ok (New v) h g .good in

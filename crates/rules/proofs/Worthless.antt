@@ -8,13 +8,13 @@ use native.Mathlib.Omega.{arith}
 use lib.IntN.{ℤ, pos, negsuc}
 use lib.ListN.{getD}
 use Rattle.rules.specs.declared.Head.{Head}
-use Rattle.rules.specs.declared.Deed.the-variants.{Clear, Link, Put, Follow, Read}
+use Rattle.rules.specs.declared.Deed.the-variants.{Clear, Link, Put, Follow, Read, Same}
 use Rattle.rules.specs.declared.Call.{Call}
 use Rattle.rules.specs.declared.Call.the-variants.{New, Do, Settle}
 use Rattle.rules.specs.Head.{freshHead, sized}
 use Rattle.rules.specs.Sound.{Sound, Word, heldAmong}
 use Rattle.rules.specs.Decide.{sound?, sized?, dec-word}
-use Rattle.rules.specs.Demands.{Demand1, Demand2, Demand3, AllListed, Finds, freeCells}
+use Rattle.rules.specs.Demands.{Demand1, Demand2, Demand3, AllListed, Finds, freeCells, saying}
 use Rattle.rules.specs.Worthless.{saysFour, saysFourteen, answersNought, freesNothing, freesOnce, madeUpCount, thirteenForNothing, fifteenForCell, fifteenForEleven, fifteenForTwelve, countsOwnHold, countsForRoom, countsNoHold, clearsAtFourteen}
 use Rattle.rules.proofs.Tests.{sound-true}
 use Rattle.rules.specs.Rows as R
@@ -82,8 +82,12 @@ r₂ = R.lent (0 ∷ 0 ∷ []) (pos 0 ∷ pos 0 ∷ []) (pos 0 ∷ pos 0 ∷ [])
 abbrev new₀ : List ℤ
 new₀ = C.wordsOf (New 0 ∷ [])
 
-abbrev settle₀ : List ℤ
-settle₀ = C.wordsOf (Settle ∷ [])
+-- with a call after it
+abbrev newSame : List ℤ
+newSame = C.wordsOf (New 0 ∷ Do (Same 0 1) ∷ [])
+
+abbrev settleSame : List ℤ
+settleSame = C.wordsOf (Settle ∷ Do (Same 0 1) ∷ [])
 
 -- a fresh heap of three cells and one variable: the third new finds the log full and a cell free
 abbrev h₃ : Head
@@ -144,7 +148,7 @@ record Computed : Type 0 where
   own-free : countsOwnHold .batch h₁ r₁ clear₀ two .outcome .head .free ≡ 0
   two-new : C.callsIn 2 new₀ ≡ some (New 0 ∷ [])
   two-clear : C.callsIn 2 clear₀ ≡ some (Do (Clear 0) ∷ [])
-  two-settle : C.callsIn 2 settle₀ ≡ some (Settle ∷ [])
+  two-none : C.callsIn 2 [] ≡ some []
   no-hold-accepted : countsNoHold .batch h₂ r₂ new₀ two .outcome .status ≡ 0
   no-hold-0 : getD (countsNoHold .batch h₂ r₂ new₀ two .answers) 0 (negsuc 0) ≡ pos 0
   no-hold-full : countsNoHold .batch h₂ r₂ clear₀ two .outcome .head .free ≡ 1
@@ -158,7 +162,13 @@ record Computed : Type 0 where
   clearing-accepted : clearsAtFourteen .batch h₂ r₂ new₀ two .outcome .status ≡ 0
   clearing-14 : getD (clearsAtFourteen .batch h₂ r₂ new₀ two .answers) 0 (negsuc 0) ≡ pos 14
   clearing-none : clearsAtFourteen .batch h₂ r₂ new₀ two .rows .variables ≡ negsuc 0 ∷ pos 0 ∷ []
-  clearing-held : clearsAtFourteen .batch h₂ r₂ settle₀ two .rows .variables ≡ pos 0 ∷ pos 0 ∷ []
+  middle-new : C.callsIn 2 newSame ≡ some (New 0 ∷ Do (Same 0 1) ∷ [])
+  middle-settle : C.callsIn 2 settleSame ≡ some (Settle ∷ Do (Same 0 1) ∷ [])
+  middle-accepted : clearsAtFourteen .batch h₂ r₂ newSame four .outcome .status ≡ 0
+  middle-14 : getD (clearsAtFourteen .batch h₂ r₂ newSame four .answers) 0 (negsuc 0) ≡ pos 14
+  middle-none : getD (clearsAtFourteen .batch h₂ r₂ newSame four .answers) 2 (negsuc 0) ≡ pos 11
+  middle-held : getD (saying 0 14 (clearsAtFourteen .batch h₂ r₂ settleSame four) .answers) 2 (negsuc 0) ≡ pos 0
+  clearing-held : clearsAtFourteen .batch h₂ r₂ [] two .rows .variables ≡ pos 0 ∷ pos 0 ∷ []
 
 computed : Computed
 unfolding F.isSized F.isSound sound? sized? dec-word Word F.batchOf F.checkCalls F.checkAnswers F.checkSound F.accepted F.answered R.rowsOf R.headOf R.heapOf C.callOf C.callsOf C.callsIn U.enterZct U.leaveZct U.enterMrt U.leaveMrt U.onCreate U.onDestroy U.apply U.replay H.place H.field H.store S.freeCell S.reclaim S.replayed S.settledBy S.settled C.var C.at C.refuses C.logs C.write C.hold C.act C.value T.full T.noneFree T.wants T.settledIf T.takeCell T.doNew T.doDeed T.acted T.run T.step T.calls T.batch T.freeFrom T.fresh N.runFrom N.runOf N.saidIn E.endless E.endlessRun E.endlessStep F.freshOf
@@ -202,7 +212,7 @@ computed =
       own-free = refl;
       two-new = refl;
       two-clear = refl;
-      two-settle = refl;
+      two-none = refl;
       no-hold-accepted = refl;
       no-hold-0 = refl;
       no-hold-full = refl;
@@ -216,6 +226,12 @@ computed =
       clearing-accepted = refl;
       clearing-14 = refl;
       clearing-none = refl;
+      middle-new = refl;
+      middle-settle = refl;
+      middle-accepted = refl;
+      middle-14 = refl;
+      middle-none = refl;
+      middle-held = refl;
       clearing-held = refl;
     }
 
@@ -313,7 +329,15 @@ worthless-counts-for-room d =
 -- v cleared at 14
 pub worthless-clears-at-14 : Demand2 clearsAtFourteen → ⊥
 worthless-clears-at-14 d =
-    let e = d .fourteen-keeps h₂ r₂ settle₀ new₀ two [] [] 0 (computed .two-settle) (computed .two-new) (computed .clearing-accepted) (computed .clearing-14) .0 in
-    let f = sym (computed .clearing-none) ∙ ap (λ (o : F.Batched). o .rows .variables) e ∙ computed .clearing-held in
+    let e = d .fourteen-keeps h₂ r₂ [] new₀ two [] 0 (computed .two-none) (computed .two-new) (computed .clearing-accepted) (computed .clearing-14) .1 in
+    let f = sym (computed .clearing-none) ∙ ap (λ (r : R.Lent). r .variables) e ∙ computed .clearing-held in
     let z : _≡_ {A = ℕ} 0 1 = cc in
+    omega arith
+
+-- the same heap, seen by the call that follows: variable 0 holds nothing there, and after a settle it holds its cell
+pub worthless-clears-in-the-middle : Demand2 clearsAtFourteen → ⊥
+worthless-clears-in-the-middle d =
+    let e = d .fourteen-settles h₂ r₂ settleSame newSame four [] (Do (Same 0 1) ∷ []) 0 (computed .middle-settle) (computed .middle-new) (computed .middle-accepted) (computed .middle-14) .0 in
+    let f = sym (computed .middle-none) ∙ ap (λ (o : F.Batched). getD (o .answers) 2 (negsuc 0)) e ∙ computed .middle-held in
+    let z : _≡_ {A = ℕ} 11 0 = cc in
     omega arith

@@ -165,8 +165,13 @@ pub record Demand2 (H : Heaps) : Type 0 where
   pub fourteen-exactly : (h : Head) (r : Lent) (us ws row : List ℤ) (cs ds : List Call) (v : ℕ)
       → callsIn (h .sizes .m) us ≡ some (cs ++ Do (Clear v) ∷ []) → callsIn (h .sizes .m) ws ≡ some (cs ++ New v ∷ ds) → H .batch h r ws row .outcome .status ≡ 0
       → (getD (H .batch h r ws row .answers) (2 * length cs) (negsuc 0) ≡ pos 14) ↔ (H .batch h r us row .outcome .head .free ≡ h .sizes .n)
-  -- and then v keeps its cell, and nothing is freed: the batch is the one with the call settle in the place of that new, settle's value nought, but that it says 14 there
-  pub fourteen-keeps : (h : Head) (r : Lent) (us ws row : List ℤ) (cs ds : List Call) (v : ℕ)
+  -- and then v keeps its cell: v's variable, its cell with both fields, and all else, are what the batch of the calls before leaves
+  pub fourteen-keeps : (h : Head) (r : Lent) (us ws row : List ℤ) (cs : List Call) (v : ℕ)
+      → callsIn (h .sizes .m) us ≡ some cs → callsIn (h .sizes .m) ws ≡ some (cs ++ New v ∷ []) → H .batch h r ws row .outcome .status ≡ 0
+      → getD (H .batch h r ws row .answers) (2 * length cs) (negsuc 0) ≡ pos 14
+      → (H .batch h r ws row .outcome ≡ H .batch h r us row .outcome) × (H .batch h r ws row .rows ≡ H .batch h r us row .rows)
+  -- whatever calls follow: the batch is the one with the call settle in the place of that new, settle's value nought, but that it says 14 there
+  pub fourteen-settles : (h : Head) (r : Lent) (us ws row : List ℤ) (cs ds : List Call) (v : ℕ)
       → callsIn (h .sizes .m) us ≡ some (cs ++ Settle ∷ ds) → callsIn (h .sizes .m) ws ≡ some (cs ++ New v ∷ ds) → H .batch h r ws row .outcome .status ≡ 0
       → getD (H .batch h r ws row .answers) (2 * length cs) (negsuc 0) ≡ pos 14
       → (H .batch h r ws row ≡ saying (2 * length cs) 14 (H .batch h r us row)) × (getD (H .batch h r us row .answers) (2 * length cs + 1) (negsuc 0) ≡ pos 0)
