@@ -50,6 +50,14 @@ holds-set (some c ∷ vs) (suc v) o b h = go (eqb b c) refl h (holds-set vs v o 
     go true e h ih = inr (rw e)
     go false e h ih = rw e (ih h)
 
+-- what is held with v let go is held
+pub holds-let-go : (vs : List (Option ℕ)) (v b : ℕ) → holds b (set vs v none) ≡ true → holds b vs ≡ true
+holds-let-go vs v b i = go (holds-set vs v none b i)
+  where
+    go : (none ≡ some b) ⊎ (holds b vs ≡ true) → holds b vs ≡ true
+    go (inl e) = absurd (let z : _≡_ {A = ℕ} 0 1 = cc in omega arith)
+    go (inr i) = i
+
 pub holds-var : (vs : List (Option ℕ)) (v a : ℕ) → getD vs v none ≡ some a → holds a vs ≡ true
 holds-var [] v a e = absurd (let w : _≡_ {A = ℕ} 0 1 = cc in omega arith)
 holds-var (none ∷ vs) zero a e = absurd (let w : _≡_ {A = ℕ} 0 1 = cc in omega arith)

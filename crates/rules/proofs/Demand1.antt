@@ -8,7 +8,7 @@ use native.Mathlib.Omega.{arith}
 use lib.Dec.{leb}
 use lib.ListN.{length, getD, drop, replicate, length-append, length-drop}
 use lib.Seq.{drop-at}
-use lib.IntN.{ℤ, negsuc}
+use lib.IntN.{ℤ, pos, negsuc}
 use borrow.Author.Tests.{leb-true, leb-false}
 use Rattle.rules.specs.declared.Head.{Head}
 use Rattle.rules.specs.declared.Deed.the-variants.{Read}
@@ -23,6 +23,7 @@ use Rattle.rules.specs.Rows.{Lent, rowsOf, heapOf}
 use Rattle.rules.specs.Sound.{Sound, Sized}
 use Rattle.rules.specs.Refusals.{Batched, outcome, leaves, leavesWith, cleared, isSized, isSound, answerWords, answered, accepted, checkSound, checkAnswers, checkCalls, freshOf, auditOf, batchOf}
 use Rattle.rules.specs.Run.{ours, said}
+use Rattle.rules.specs.Invariant.{Inv}
 use Rattle.rules.specs.Demands.{Callable, TooShort, Exactly, AllListed, ReadSays, Demand1}
 use Rattle.rules.proofs.Calls.{calls-in-fit, fit-parts}
 use Rattle.rules.proofs.Step.{counted-from-0}
@@ -216,21 +217,34 @@ accepted-listed : (h : Head) (r : Lent) (cs : List Call) (row : List ℤ) → Al
 unfolding accepted answered batch
 accepted-listed h r cs row = let k = unfreed (heapOf h r) in all-listed (h .sizes) cs k (drop (2 * length (calls (h .sizes) cs k .answers)) row)
 
--- a read after the calls cs
+-- ---- a call after the calls cs of an accepted batch
+
+module _ {h : Head} {r : Lent} (Z : Sized h r) (S : Sound h r) (cs : List Call) (F : AllFit (h .sizes .m) cs) where
+  -- the heap before it
+  unfoldable pub before : Heap
+  before = heapAfter (h .sizes) cs (unfreed (heapOf h r))
+
+  pub before-inv : Inv (h .sizes) before
+  unfolding before
+  before-inv = let ok = Z .within .limits in after-inv (h .sizes) ok cs (unfreed (heapOf h r)) (counted-from-0 (h .sizes) ok (heapOf h r) (entry-ended Z S .inv)) F
+
+  -- its status
+  pub status-there : (row : List ℤ) (c : Call) (ds : List Call) → getD (accepted h r (cs ++ c ∷ ds) row .answers) (2 * length cs) (negsuc 0) ≡ pos (step (h .sizes) c before .answer .status)
+  unfolding accepted answered batch before
+  status-there row c ds = let s = h .sizes in let k = unfreed (heapOf h r) in status-at s cs ds c k (drop (2 * length (calls s (cs ++ c ∷ ds) k .answers)) row)
+
+-- a read
 module _ (h : Head) (r : Lent) (row : List ℤ) (cs ds : List Call) (v f : ℕ) where
   abbrev es : List Call
   es = cs ++ Do (Read v f) ∷ ds
 
   accepted-read : Sized h r → Sound h r → AllFit (h .sizes .m) es → ReadSays (accepted h r cs row .rows) v f (getD (accepted h r es row .answers) (2 * length cs) (negsuc 0))
-  unfolding accepted answered batch
+  unfolding accepted batch before
   accepted-read Z S F =
       let s = h .sizes in
-      let ok = Z .within .limits in
-      let k = unfreed (heapOf h r) in
       let p = fit-parts (s .m) cs (Do (Read v f) ∷ ds) F in
-      let g = after-inv s ok cs k (counted-from-0 s ok (heapOf h r) (entry-ended Z S .inv)) (p .0) in
-      rw (calls-end s cs k, status-at s cs ds (Do (Read v f)) k (drop (2 * length (calls s es k .answers)) row))
-      (read-after s ok (heapAfter s cs k) g v f (p .1 .0 .1))
+      rw (calls-end s cs (unfreed (heapOf h r)), status-there Z S cs (p .0) row (Do (Read v f)) ds)
+      (read-after s (Z .within .limits) (before Z S cs (p .0)) (before-inv Z S cs (p .0)) v f (p .1 .0 .1))
 
   reads : (us ws : List ℤ) → callsIn (h .sizes .m) us ≡ some cs → callsIn (h .sizes .m) ws ≡ some es → batchOf h r ws row .outcome .status ≡ 0
       → ReadSays (batchOf h r us row .rows) v f (getD (batchOf h r ws row .answers) (2 * length cs) (negsuc 0))

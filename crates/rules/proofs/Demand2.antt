@@ -7,7 +7,7 @@ use mathlib.Core.Option.{none, some}
 use mathlib.Core.List.{List, [], _∷_, _++_, map}
 use native.Mathlib.Omega.{arith}
 use lib.ListN.{length, getD, drop, length-append, List·getD-map}
-use lib.Seq.{getD-set-same}
+use lib.Seq.{getD-set-same, drop-drop}
 use lib.IntN.{ℤ, pos, negsuc}
 use borrow.Author.Tests.{lt-ltb, le-ltb, ne-eqb}
 use Rattle.rules.specs.declared.Head.{Head}
@@ -31,13 +31,13 @@ use Rattle.rules.specs.Invariant.{Inv}
 use Rattle.rules.proofs.Tests.{sound-true, sound-false}
 use Rattle.rules.proofs.Cells.{lives}
 use Rattle.rules.proofs.Calls.{calls-in-fit, fit-parts}
-use Rattle.rules.proofs.Step.{settled-done, step-inv, counted-from-0}
+use Rattle.rules.proofs.Step.{settled-done, step-inv}
 use Rattle.rules.proofs.Roundtrip.{rows-of-heap}
 use Rattle.rules.proofs.Whole.{twice}
 use Rattle.rules.proofs.Entry.{entry-ended, exit-ended, exit-sized, exit-sound}
-use Rattle.rules.proofs.Demand1.{Accepts, taken, same-calls, answers-long, audit-0, audit-4, accepted-as, both}
+use Rattle.rules.proofs.Demand1.{Accepts, taken, same-calls, answers-long, audit-0, audit-4, accepted-as, both, before, before-inv, status-there}
 use Rattle.rules.proofs.Facts as facts
-use Rattle.rules.proofs.Inside.{heapAfter, calls-end, calls-after, status-at, value-at, words-from, said-alone, words-but, after-inv, pos-same}
+use Rattle.rules.proofs.Inside.{calls-end, calls-after, value-at, words-from, said-alone, words-but, pos-same}
 use Rattle.rules.proofs.LetGo.{after-clear, fourteen-cleared, kept-settled, as-settle, settle-value}
 
 -- ---- free cells and cells in use
@@ -159,28 +159,30 @@ module _ {h : Head} {r : Lent} (Z : Sized h r) (S : Sound h r) (v : ℕ) (k : v 
 
 -- ---- a new inside a batch, after the calls cs
 
+-- what a batch leaves is told by the heap at its end
+same-left : (s : Sizes) {x y : Heap} → x ≡ y → (outcome 0 (headOf s x) (x .freed) ≡ outcome 0 (headOf s y) (y .freed)) × (rowsOf s x ≡ rowsOf s y)
+same-left s e = (ap (λ (y : Heap). outcome 0 (headOf s y) (y .freed)) e, ap (rowsOf s) e)
+
 module _ {h : Head} {r : Lent} (Z : Sized h r) (S : Sound h r) (cs : List Call) (F : AllFit (h .sizes .m) cs) (v : ℕ) (row : List ℤ) where
   -- the heap before it
-  before : Heap
-  before = heapAfter (h .sizes) cs (unfreed (heapOf h r))
+  abbrev now : Heap
+  now = before Z S cs F
 
-  before-inv : Inv (h .sizes) before
-  unfolding before
-  before-inv = let ok = Z .within .limits in after-inv (h .sizes) ok cs (unfreed (heapOf h r)) (counted-from-0 (h .sizes) ok (heapOf h r) (entry-ended Z S .inv)) F
+  now-inv : Inv (h .sizes) now
+  now-inv = before-inv Z S cs F
 
-  status-of : (ds : List Call) → getD (accepted h r (cs ++ New v ∷ ds) row .answers) (2 * length cs) (negsuc 0) ≡ pos (step (h .sizes) (New v) before .answer .status)
-  unfolding accepted answered batch before
-  status-of ds = let s = h .sizes in let k = unfreed (heapOf h r) in status-at s cs ds (New v) k (drop (2 * length (calls s (cs ++ New v ∷ ds) k .answers)) row)
+  status-now : (ds : List Call) → getD (accepted h r (cs ++ New v ∷ ds) row .answers) (2 * length cs) (negsuc 0) ≡ pos (step (h .sizes) (New v) now .answer .status)
+  status-now = status-there Z S cs F row (New v)
 
-  heap-of : (es : List Call) → batch (h .sizes) (cs ++ es) (heapOf h r) .heap ≡ calls (h .sizes) es before .heap
+  heap-of : (es : List Call) → batch (h .sizes) (cs ++ es) (heapOf h r) .heap ≡ calls (h .sizes) es now .heap
   unfolding batch before
   heap-of es = calls-after (h .sizes) cs es (unfreed (heapOf h r))
 
   fourteen : (ds : List Call) → (getD (accepted h r (cs ++ New v ∷ ds) row .answers) (2 * length cs) (negsuc 0) ≡ pos 14) ↔ (accepted h r (cs ++ Do (Clear v) ∷ []) row .outcome .head .free ≡ h .sizes .n)
   unfolding accepted headOf calls
   fourteen ds =
-      let f = fourteen-cleared (h .sizes) (Z .within .limits) v before before-inv in
-      rw (status-of ds, heap-of (Do (Clear v) ∷ [])) (λ e. f .0 (pos-same _ _ e), λ e. ap pos (f .1 e))
+      let f = fourteen-cleared (h .sizes) (Z .within .limits) v now now-inv in
+      rw (status-now ds, heap-of (Do (Clear v) ∷ [])) (λ e. f .0 (pos-same _ _ e), λ e. ap pos (f .1 e))
 
   keeps : getD (accepted h r (cs ++ New v ∷ []) row .answers) (2 * length cs) (negsuc 0) ≡ pos 14
       → (accepted h r (cs ++ New v ∷ []) row .outcome ≡ accepted h r cs row .outcome) × (accepted h r (cs ++ New v ∷ []) row .rows ≡ accepted h r cs row .rows)
@@ -188,9 +190,9 @@ module _ {h : Head} {r : Lent} (Z : Sized h r) (S : Sound h r) (cs : List Call) 
   keeps e =
       let s = h .sizes in
       let k = unfreed (heapOf h r) in
-      let a = kept-settled s (Z .within .limits) v before before-inv (pos-same _ _ (sym (status-of []) ∙ e)) in
+      let a = kept-settled s (Z .within .limits) v now now-inv (pos-same _ _ (sym (status-now []) ∙ e)) in
       let same : calls s (cs ++ New v ∷ []) k .heap ≡ calls s cs k .heap = calls-after s cs (New v ∷ []) k ∙ a ∙ sym (calls-end s cs k) in
-      (ap (λ (y : Heap). outcome 0 (headOf s y) (y .freed)) same, ap (rowsOf s) same)
+      same-left s same
 
   settles : (ds : List Call) → getD (accepted h r (cs ++ New v ∷ ds) row .answers) (2 * length cs) (negsuc 0) ≡ pos 14
       → (accepted h r (cs ++ New v ∷ ds) row ≡ saying (2 * length cs) 14 (accepted h r (cs ++ Settle ∷ ds) row)) × (getD (accepted h r (cs ++ Settle ∷ ds) row .answers) (2 * length cs + 1) (negsuc 0) ≡ pos 0)
@@ -199,9 +201,9 @@ module _ {h : Head} {r : Lent} (Z : Sized h r) (S : Sound h r) (cs : List Call) 
       let s = h .sizes in
       let ok = Z .within .limits in
       let k = unfreed (heapOf h r) in
-      let w = pos-same _ _ (sym (status-of ds) ∙ e) in
-      let x = settle-value s ok v before before-inv w in
-      let a = as-settle s ok v before before-inv w in
+      let w = pos-same _ _ (sym (status-now ds) ∙ e) in
+      let x = settle-value s ok v now now-inv w in
+      let a = as-settle s ok v now now-inv w in
       let rest = drop (2 * length (calls s (cs ++ Settle ∷ ds) k .answers)) row in
       let long : length (calls s (cs ++ New v ∷ ds) k .answers) ≡ length (calls s (cs ++ Settle ∷ ds) k .answers) =
       answers-long s (cs ++ New v ∷ ds) k ∙ length-append cs (New v ∷ ds) ∙ sym (length-append cs (Settle ∷ ds)) ∙ sym (answers-long s (cs ++ Settle ∷ ds) k) in
@@ -218,20 +220,19 @@ module _ {h : Head} {r : Lent} (Z : Sized h r) (S : Sound h r) (cs : List Call) 
       let s = h .sizes in
       let k = unfreed (heapOf h r) in
       let es = New v ∷ ds in
-      let c = after-clear s (Z .within .limits) v before before-inv (pos-same _ _ (sym (status-of ds) ∙ e)) in
+      let c = after-clear s (Z .within .limits) v now now-inv (pos-same _ _ (sym (status-now ds) ∙ e)) in
       let same : calls s (cs ++ es) k .heap ≡ calls s (cs ++ Do (Clear v) ∷ es) k .heap =
       calls-after s cs es k ∙ ap (λ (o : Stepped). calls s ds (o .heap) .heap) (sym c) ∙ sym (calls-after s cs (Do (Clear v) ∷ es) k) in
-      let z : 2 * length cs + 0 ≡ 2 * length cs = omega arith in
       let rest = drop (2 * length (calls s (cs ++ es) k .answers)) row in
       let rest′ = drop (2 * length (calls s (cs ++ Do (Clear v) ∷ es) k .answers)) row′ in
       record {
-        outcomes = ap (λ (y : Heap). outcome 0 (headOf s y) (y .freed)) same;
-        same-rows = ap (rowsOf s) same;
+        outcomes = same-left s same .0;
+        same-rows = same-left s same .1;
         same-said =
-            ap (said es) (rw z at (words-from s cs es k rest 0))
-            ∙ said-alone s es before rest rest′
+            ap (said es) (words-from s cs es k rest)
+            ∙ said-alone s es now rest rest′
             ∙ ap (λ (o : Stepped). said es (pos (o .answer .status) ∷ o .answer .value ∷ (answerWords (calls s ds (o .heap) .answers) ++ rest′))) (sym c)
-            ∙ sym (ap (said es) (words-from s cs (Do (Clear v) ∷ es) k rest′ 2));
+            ∙ ap (said es) (ap (drop 2) (sym (words-from s cs (Do (Clear v) ∷ es) k rest′)) ∙ drop-drop 2 (2 * length cs) _);
       }
 
 -- ---- the demand

@@ -32,7 +32,7 @@ use Rattle.rules.proofs.Sorted.{replay-kept}
 use Rattle.rules.proofs.Cells.{lives, lives-taken, live-store-0, field-same, field-across}
 use Rattle.rules.proofs.Reclaim.{pick-least, pick-some, pick-none, having, reclaim-kept, taken-when}
 use Rattle.rules.proofs.Calls.{act-lives}
-use Rattle.rules.proofs.Step.{settledBy-good, settledBy-done, settledBy-sum, settledBy-full, none-free-settled, counting, counting-inv, readied, readied-inv, readied-right, for-readied, Ran, run-as, taken, step-inv, counted-from-0}
+use Rattle.rules.proofs.Step.{settledBy-good, settledBy-done, settledBy-sum, none-free-settled, counting, counted-good, counted-full, readied, readied-inv, readied-right, for-readied, Ran, run-as, taken, step-inv, counted-from-0}
 
 -- ---- the turns of a settle
 
@@ -167,7 +167,7 @@ module _ (s : Sizes) (ok : Limits s) where
 
   -- afterwards each ZCT cell is held by one of the variables that are counted: all that could be freed was
   pub frees-all : (c : Call) (h : Heap) → Inv s h → (a : ℕ) → has a (settledBy s (counted c h) h .tables .zct) ≡ true → holds a (counted c h) ≡ true
-  frees-all c h g a i = pick-none (counted c h) (settledBy s (counted c h) h .tables .zct) (settledBy-done s ok (counted c h) h (counting-inv s ok c h g .good)) a i
+  frees-all c h g a i = pick-none (counted c h) (settledBy s (counted c h) h .tables .zct) (settledBy-done s ok (counted c h) h (counted-good s ok c h g)) a i
 
   -- what a turn takes
   pub takes : (c : Call) (h : Heap) → Inv s h → (k a : ℕ) → pick (counted c h) (turns s (counted c h) h k .tables .zct) ≡ some a → Taking s (counted c h) h k a
@@ -176,7 +176,7 @@ module _ (s : Sizes) (ok : Limits s) where
       let hs = counted c h in
       let z = turns s hs h k .tables .zct in
       let p = pick-some hs z a e in
-      let m = reclaim-kept (s .n) (s .cap) (ok .cap-least) hs k (replayed (s .cap) h) (counting-inv s ok c h g .good) (replay-kept (s .n) (s .cap) (ok .cap-least) (h .log) (h .tables) (g .kept) (g .log-small)) in
+      let m = reclaim-kept (s .n) (s .cap) (ok .cap-least) hs k (replayed (s .cap) h) (counted-good s ok c h g) (replay-kept (s .n) (s .cap) (ok .cap-least) (h .log) (h .tables) (g .kept) (g .log-small)) in
       record { picked = e; in-zct = p .0; unheld = p .1; smallest = λ b. pick-least hs z a b (m .zct-up) e }
 
   -- a cell that a settle frees was taken at one of its turns
@@ -184,13 +184,13 @@ module _ (s : Sizes) (ok : Limits s) where
       → (k : ℕ) × ((k < s .n) × Taking s (counted c h) h k a)
   unfolding settledBy turns replayed
   frees-only c h g a l d =
-      let r = taken-when (s .n) (s .cap) (ok .cap-least) (counted c h) (replayed (s .cap) h) (counting-inv s ok c h g .good) a l (s .n) d in
+      let r = taken-when (s .n) (s .cap) (ok .cap-least) (counted c h) (replayed (s .cap) h) (counted-good s ok c h g) a l (s .n) d in
       (r .0, (r .1 .0, takes c h g (r .0) a (r .1 .1)))
 
   -- a count below the cap is the number of pointers
   pub exact-below-cap : (c : Call) (h : Heap) → Inv s h → (b : ℕ) → live (settledBy s (counted c h) h .shape .fields) b ≡ true
       → (count (settledBy s (counted c h) h .tables) b ≡ s .cap) ⊎ (count (settledBy s (counted c h) h .tables) b ≡ refs (settledBy s (counted c h) h .shape .fields) b)
-  exact-below-cap c h g b l = settledBy-good s ok (counted c h) h (counting-inv s ok c h g .good) .counted b .exact l
+  exact-below-cap c h g b l = settledBy-good s ok (counted c h) h (counted-good s ok c h g) .counted b .exact l
 
   -- ---- cells in use and cells freed
 
@@ -207,7 +207,7 @@ module _ (s : Sizes) (ok : Limits s) where
   readied-sum c h g = go (wants s c h)
     where
       go : (b : Bool) → Sum (settledIf b s (counted c h) (counting c h)) ≡ Sum h
-      go true = settledBy-sum s ok (counted c h) (counting c h) (counting-inv s ok c h g .good)
+      go true = settledBy-sum s ok (counted c h) (counting c h) (counted-good s ok c h g)
       go false = refl
 
   -- new takes one cell into use
@@ -294,7 +294,7 @@ module _ (s : Sizes) (ok : Limits s) where
 
       -- that settle frees none, so none was free before it
       full-before : noneFree s (settledBy s hs h) ≡ true → noneFree s h ≡ true
-      full-before e = unfold noneFree replayed in sym (ap (noneFree s) (settledBy-full s ok hs h (counting-inv s ok (New v) h g .good) e)) ∙ e
+      full-before e = unfold noneFree replayed in sym (ap (noneFree s) (counted-full s ok (New v) h g e)) ∙ e
 
       go : (p : Bool) → noneFree s (settledBy s hs h) ≡ true → noneFree s (settledIf (p || noneFree s h) s hs h) ≡ true
       go true e = e
@@ -302,7 +302,7 @@ module _ (s : Sizes) (ok : Limits s) where
 
   -- 14 has freed nothing: the log is replayed, and that is all
   pub fourteen-left : (c : Call) (h : Heap) → Inv s h → {k : ℕ} {o : Stepped} → Fourteen s c h k o → o .heap ≡ replayed (s .cap) h
-  fourteen-left c h g f = f .left ∙ settledBy-full s ok (counted c h) h (counting-inv s ok c h g .good) (f .none-free)
+  fourteen-left c h g f = f .left ∙ counted-full s ok c h g (f .none-free)
 
   -- so v keeps its cell, with both fields
   pub fourteen-keeps : (v : ℕ) (h : Heap) → Inv s h → step s (New v) h .answer .status ≡ 14 → step s (New v) h .heap ≡ replayed (s .cap) h

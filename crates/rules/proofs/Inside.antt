@@ -9,6 +9,7 @@ use native.Mathlib.Omega.{arith}
 use lib.Dec.{eqb}
 use lib.IntN.{ℤ, pos, negsuc}
 use lib.ListN.{length, getD, set, drop, List·getD-map}
+use lib.Seq.{getD-drop}
 use borrow.Author.Tests.{eqb-true}
 use Rattle.rules.specs.declared.Field.{Field}
 use Rattle.rules.specs.declared.Field.the-variants.{Nothing, Figure, Cell, Free}
@@ -56,32 +57,31 @@ module _ (s : Sizes) where
   calls-after [] ds h = refl
   calls-after (c ∷ cs) ds h = calls-after cs ds (step s c h .heap)
 
-  -- the status of the call after them, in the answers row
-  pub status-at : (cs ds : List Call) (c : Call) (h : Heap) (rest : List ℤ)
-      → getD (answerWords (calls s (cs ++ c ∷ ds) h .answers) ++ rest) (2 * length cs) (negsuc 0) ≡ pos (step s c (heapAfter s cs h) .answer .status)
+  -- the words of the answers row from there on
+  pub words-from : (cs ds : List Call) (h : Heap) (rest : List ℤ)
+      → drop (2 * length cs) (answerWords (calls s (cs ++ ds) h .answers) ++ rest) ≡ answerWords (calls s ds (heapAfter s cs h) .answers) ++ rest
   unfolding calls heapAfter
-  status-at [] ds c h rest = refl
-  status-at (b ∷ cs) ds c h rest =
+  words-from [] ds h rest = refl
+  words-from (c ∷ cs) ds h rest =
       let two : 2 * suc (length cs) ≡ suc (suc (2 * length cs)) = omega arith in
-      rw two (status-at cs ds c (step s b h .heap) rest)
+      rw two (words-from cs ds (step s c h .heap) rest)
 
-  -- and the word beside it
-  pub value-at : (cs ds : List Call) (c : Call) (h : Heap) (rest : List ℤ)
-      → getD (answerWords (calls s (cs ++ c ∷ ds) h .answers) ++ rest) (2 * length cs + 1) (negsuc 0) ≡ step s c (heapAfter s cs h) .answer .value
-  unfolding calls heapAfter
-  value-at [] ds c h rest = refl
-  value-at (b ∷ cs) ds c h rest =
-      let two : 2 * suc (length cs) + 1 ≡ suc (suc (2 * length cs + 1)) = omega arith in
-      rw two (value-at cs ds c (step s b h .heap) rest)
+  -- the call after them: its status, and its value beside it
+  module _ (cs ds : List Call) (c : Call) (h : Heap) (rest : List ℤ) where
+    row : List ℤ
+    row = answerWords (calls s (cs ++ c ∷ ds) h .answers) ++ rest
 
-  -- the words from there on
-  pub words-from : (cs ds : List Call) (h : Heap) (rest : List ℤ) (j : ℕ)
-      → drop (2 * length cs + j) (answerWords (calls s (cs ++ ds) h .answers) ++ rest) ≡ drop j (answerWords (calls s ds (heapAfter s cs h) .answers) ++ rest)
-  unfolding calls heapAfter
-  words-from [] ds h rest j = let z : 2 * 0 + j ≡ j = omega arith in ap (λ (i : ℕ). drop i (answerWords (calls s ds h .answers) ++ rest)) z
-  words-from (c ∷ cs) ds h rest j =
-      let two : 2 * suc (length cs) + j ≡ suc (suc (2 * length cs + j)) = omega arith in
-      rw two (words-from cs ds (step s c h .heap) rest j)
+    word-at : (j : ℕ) → getD row (2 * length cs + j) (negsuc 0) ≡ getD (answerWords (calls s (c ∷ ds) (heapAfter s cs h) .answers) ++ rest) j (negsuc 0)
+    unfolding row
+    word-at j = sym (getD-drop (2 * length cs) row j (negsuc 0)) ∙ ap (λ (l : List ℤ). getD l j (negsuc 0)) (words-from cs (c ∷ ds) h rest)
+
+    pub status-at : getD (answerWords (calls s (cs ++ c ∷ ds) h .answers) ++ rest) (2 * length cs) (negsuc 0) ≡ pos (step s c (heapAfter s cs h) .answer .status)
+    unfolding calls row
+    status-at = let z : 2 * length cs + 0 ≡ 2 * length cs = omega arith in rw z at (word-at 0)
+
+    pub value-at : getD (answerWords (calls s (cs ++ c ∷ ds) h .answers) ++ rest) (2 * length cs + 1) (negsuc 0) ≡ step s c (heapAfter s cs h) .answer .value
+    unfolding calls row
+    value-at = word-at 1
 
   -- what follows the answers is not said
   pub said-alone : (cs : List Call) (h : Heap) (rest rest′ : List ℤ) → said cs (answerWords (calls s cs h .answers) ++ rest) ≡ said cs (answerWords (calls s cs h .answers) ++ rest′)

@@ -20,8 +20,8 @@ use Rattle.rules.specs.Call.{refuses, logs, act, hold}
 use Rattle.rules.specs.Step.{Stepped, done, refused, full, noneFree, wants, counted, settledIf, settledFor, doDeed, acted, run, step}
 use Rattle.rules.specs.Invariant.{Inv, Done}
 use Rattle.rules.proofs.Reclaim.{pick-more, reclaim-idle}
-use Rattle.rules.proofs.Calls.{holds-set}
-use Rattle.rules.proofs.Step.{settledIf-having, settledBy-done, settledBy-full, counting, counting-inv, readied, unsettled, Ran, run-as}
+use Rattle.rules.proofs.Calls.{holds-let-go}
+use Rattle.rules.proofs.Step.{settledIf-having, settledBy-done, counting, counted-good, counted-full, readied, unsettled, Ran, run-as}
 use Rattle.rules.proofs.Facts.{call-refused, fourteen-full, fourteen-keeps}
 
 module _ (s : Sizes) (ok : Limits s) (v : ℕ) (h : Heap) (g : Inv s h) where
@@ -65,20 +65,14 @@ module _ (s : Sizes) (ok : Limits s) (v : ℕ) (h : Heap) (g : Inv s h) where
     kept-settled = ap (settled s) (fourteen-keeps s ok v h g e)
 
     none-left : Done (counted (New v) h) (replayed (s .cap) h)
-    none-left =
-        let G = counting-inv s ok (New v) h g .good in
-        rw (settledBy-full s ok (counted (New v) h) h G (fourteen-full s ok v h g .0 e)) at (settledBy-done s ok (counted (New v) h) h G)
+    none-left = rw (counted-full s ok (New v) h g (fourteen-full s ok v h g .0 e)) at (settledBy-done s ok (counted (New v) h) h (counted-good s ok (New v) h g))
 
     -- the call settle frees none either
     full-settled : settled s h ≡ replayed (s .cap) h
     unfolding settled settledBy
     full-settled =
         let vs = h .shape .variables in
-        reclaim-idle (s .cap) vs (s .n) (replayed (s .cap) h) (pick-more (counted (New v) h) vs (replayed (s .cap) h .tables .zct) (λ b i. more b (holds-set vs v none b i)) none-left)
-      where
-        more : (b : ℕ) → (none ≡ some b) ⊎ (holds b (h .shape .variables) ≡ true) → holds b (h .shape .variables) ≡ true
-        more b (inl d) = absurd (let z : _≡_ {A = ℕ} 0 1 = cc in omega arith)
-        more b (inr d) = d
+        reclaim-idle (s .cap) vs (s .n) (replayed (s .cap) h) (pick-more (counted (New v) h) vs (replayed (s .cap) h .tables .zct) (holds-let-go vs v) none-left)
 
     settle-done : step s Settle h ≡ done (replayed (s .cap) h) (pos 0)
     unfolding step run acted wants settledIf settled replayed

@@ -102,7 +102,7 @@ module _ (s : Sizes) (ok : Limits s) (hs : List (Option ℕ)) (h : Heap)
   settledBy-figures = reclaim-figures (s .n) (s .cap) (ok .cap-least) hs (s .n) (replayed (s .cap) h) g
 
   -- with no cell free after it, a settle freed none: the log is replayed, and that is all
-  pub settledBy-full : noneFree s (settledBy s hs h) ≡ true → settledBy s hs h ≡ replayed (s .cap) h
+  settledBy-full : noneFree s (settledBy s hs h) ≡ true → settledBy s hs h ≡ replayed (s .cap) h
   unfolding noneFree settledBy replayed
   settledBy-full e = reclaim-full (s .n) (s .cap) (ok .cap-least) hs (s .n) (replayed (s .cap) h) g (eqb-true _ _ e)
 
@@ -195,6 +195,13 @@ module _ (s : Sizes) (ok : Limits s) where
       }
   counting-inv (Do d) h g = g
   counting-inv Settle h g = g
+
+  pub counted-good : (c : Call) (h : Heap) → Inv s h → Good (s .n) (s .cap) (h .shape .fields) (counted c h) (replay (s .cap) (h .log) (h .tables))
+  counted-good c h g = counting-inv c h g .good
+
+  -- with no cell free after the settle before a call, nothing was freed
+  pub counted-full : (c : Call) (h : Heap) → Inv s h → noneFree s (settledBy s (counted c h) h) ≡ true → settledBy s (counted c h) h ≡ replayed (s .cap) h
+  counted-full c h g = settledBy-full s ok (counted c h) h (counted-good c h g)
 
   -- between the settle for a new and the taking v may name a freed cell: the invariant is that of the heap with v let go
   pub readied-inv : (c : Call) (h : Heap) → Inv s h → Inv s (readied s c h)
@@ -333,7 +340,7 @@ module _ (s : Sizes) (ok : Limits s) where
 
   -- a new that finds no cell free after its settle: nothing was freed
   new-full : (v : ℕ) (h : Heap) → Inv s h → noneFree s (settledFor s (New v) h) ≡ true → settledFor s (New v) h ≡ replayed (s .cap) h
-  new-full v h g e = let d = none-free-settled s v h e in d ∙ settledBy-full s ok (counted (New v) h) h (counting-inv (New v) h g .good) (rw d at e)
+  new-full v h g e = let d = none-free-settled s v h e in d ∙ counted-full (New v) h g (rw d at e)
 
   -- a call that passed its check is done in the heap that is readied for it; but a new may answer 14, and has then freed nothing
   pub run-as : (c : Call) (h : Heap) → Inv s h → Ran s c h

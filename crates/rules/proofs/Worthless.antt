@@ -8,6 +8,7 @@ use native.Mathlib.Omega.{arith}
 use lib.IntN.{ℤ, pos, negsuc}
 use lib.ListN.{getD}
 use Rattle.rules.specs.declared.Head.{Head}
+use Rattle.rules.specs.declared.Outcome.{Outcome}
 use Rattle.rules.specs.declared.Deed.the-variants.{Clear, Link, Put, Follow, Read, Same}
 use Rattle.rules.specs.declared.Call.{Call}
 use Rattle.rules.specs.declared.Call.the-variants.{New, Do, Settle}
@@ -15,7 +16,7 @@ use Rattle.rules.specs.Head.{freshHead, sized}
 use Rattle.rules.specs.Sound.{Sound, Word, heldAmong}
 use Rattle.rules.specs.Decide.{sound?, sized?, dec-word}
 use Rattle.rules.specs.Demands.{Demand1, Demand2, Demand3, AllListed, Finds, freeCells, saying}
-use Rattle.rules.specs.Worthless.{saysFour, saysFourteen, answersNought, freesNothing, freesOnce, madeUpCount, thirteenForNothing, fifteenForCell, fifteenForEleven, fifteenForTwelve, countsOwnHold, countsForRoom, countsNoHold, clearsAtFourteen}
+use Rattle.rules.specs.Worthless.{saysFour, saysFourteen, answersNought, freesNothing, freesOnce, madeUpCount, thirteenForNothing, fifteenForCell, fifteenForEleven, fifteenForTwelve, countsOwnHold, countsForRoom, countsNoHold, clearsAtFourteen, losesTheLog, reusesUncounted}
 use Rattle.rules.proofs.Tests.{sound-true}
 use Rattle.rules.specs.Rows as R
 use Rattle.rules.specs.Rules as U
@@ -88,6 +89,16 @@ newSame = C.wordsOf (New 0 ∷ Do (Same 0 1) ∷ [])
 
 abbrev settleSame : List ℤ
 settleSame = C.wordsOf (Settle ∷ Do (Same 0 1) ∷ [])
+
+-- after a link whose entry is in the log
+abbrev linkNew₀ : List ℤ
+linkNew₀ = C.wordsOf (Do (Link 0 0 0) ∷ New 0 ∷ [])
+
+abbrev linkSettle₀ : List ℤ
+linkSettle₀ = C.wordsOf (Do (Link 0 0 0) ∷ Settle ∷ [])
+
+abbrev clearNew₀ : List ℤ
+clearNew₀ = C.wordsOf (Do (Clear 0) ∷ New 0 ∷ [])
 
 -- a fresh heap of three cells and one variable: the third new finds the log full and a cell free
 abbrev h₃ : Head
@@ -168,6 +179,19 @@ record Computed : Type 0 where
   middle-14 : getD (clearsAtFourteen .batch h₂ r₂ newSame four .answers) 0 (negsuc 0) ≡ pos 14
   middle-none : getD (clearsAtFourteen .batch h₂ r₂ newSame four .answers) 2 (negsuc 0) ≡ pos 11
   middle-held : getD (saying 0 14 (clearsAtFourteen .batch h₂ r₂ settleSame four) .answers) 2 (negsuc 0) ≡ pos 0
+  log-new : C.callsIn 1 linkNew₀ ≡ some (Do (Link 0 0 0) ∷ New 0 ∷ [])
+  log-settle : C.callsIn 1 linkSettle₀ ≡ some (Do (Link 0 0 0) ∷ Settle ∷ [])
+  log-accepted : losesTheLog .batch h₁ r₁ linkNew₀ four .outcome .status ≡ 0
+  log-14 : getD (losesTheLog .batch h₁ r₁ linkNew₀ four .answers) 2 (negsuc 0) ≡ pos 14
+  log-lost : losesTheLog .batch h₁ r₁ linkNew₀ four .outcome .head .zct ≡ 1
+  log-read : losesTheLog .batch h₁ r₁ link₀ four .outcome .head .zct ≡ 0
+  log-settled : losesTheLog .batch h₁ r₁ linkSettle₀ four .outcome .head .zct ≡ 0
+  clear-new : C.callsIn 1 clearNew₀ ≡ some (Do (Clear 0) ∷ New 0 ∷ [])
+  reuse-accepted : reusesUncounted .batch h₁ r₁ new₀ two .outcome .status ≡ 0
+  reuse-0 : getD (reusesUncounted .batch h₁ r₁ new₀ two .answers) 0 (negsuc 0) ≡ pos 0
+  reuse-none : reusesUncounted .batch h₁ r₁ new₀ two .outcome .count ≡ 0
+  cleared-accepted : reusesUncounted .batch h₁ r₁ clearNew₀ four .outcome .status ≡ 0
+  cleared-one : reusesUncounted .batch h₁ r₁ clearNew₀ four .outcome .count ≡ 1
   clearing-held : clearsAtFourteen .batch h₂ r₂ [] two .rows .variables ≡ pos 0 ∷ pos 0 ∷ []
 
 computed : Computed
@@ -232,6 +256,19 @@ computed =
       middle-14 = refl;
       middle-none = refl;
       middle-held = refl;
+      log-new = refl;
+      log-settle = refl;
+      log-accepted = refl;
+      log-14 = refl;
+      log-lost = refl;
+      log-read = refl;
+      log-settled = refl;
+      clear-new = refl;
+      reuse-accepted = refl;
+      reuse-0 = refl;
+      reuse-none = refl;
+      cleared-accepted = refl;
+      cleared-one = refl;
       clearing-held = refl;
     }
 
@@ -340,4 +377,24 @@ worthless-clears-in-the-middle d =
     let e = d .fourteen-settles h₂ r₂ settleSame newSame four [] (Do (Same 0 1) ∷ []) 0 (computed .middle-settle) (computed .middle-new) (computed .middle-accepted) (computed .middle-14) .0 in
     let f = sym (computed .middle-none) ∙ ap (λ (o : F.Batched). getD (o .answers) 2 (negsuc 0)) e ∙ computed .middle-held in
     let z : _≡_ {A = ℕ} 11 0 = cc in
+    omega arith
+
+-- the log emptied unread at 14: the cell that a link points to stays in ZCT
+pub worthless-loses-the-log : Demand2 losesTheLog → ⊥
+worthless-loses-the-log d =
+    let e = d .fourteen-keeps h₁ r₁ link₀ linkNew₀ four (Do (Link 0 0 0) ∷ []) 0 (computed .link-call) (computed .log-new) (computed .log-accepted) (computed .log-14) .0 in
+    let f = sym (computed .log-lost) ∙ ap (λ (o : Outcome). o .head .zct) e ∙ computed .log-read in
+    omega arith
+
+pub worthless-loses-what-settle-reads : Demand2 losesTheLog → ⊥
+worthless-loses-what-settle-reads d =
+    let e = d .fourteen-settles h₁ r₁ linkSettle₀ linkNew₀ four (Do (Link 0 0 0) ∷ []) [] 0 (computed .log-settle) (computed .log-new) (computed .log-accepted) (computed .log-14) .0 in
+    let f = sym (computed .log-lost) ∙ ap (λ (o : F.Batched). o .outcome .head .zct) e ∙ computed .log-settled in
+    omega arith
+
+-- v's own cell handed to it again, not counted as freed
+pub worthless-reuses-uncounted : Demand2 reusesUncounted → ⊥
+worthless-reuses-uncounted d =
+    let e = d .new-lets-go h₁ r₁ clearNew₀ new₀ two four [] [] 0 (computed .clear-new) (computed .new-call) (computed .cleared-accepted) (computed .reuse-accepted) (computed .reuse-0) in
+    let f = sym (computed .reuse-none) ∙ ap (λ (o : Outcome). o .count) (e .outcomes) ∙ computed .cleared-one in
     omega arith

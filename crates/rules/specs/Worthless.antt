@@ -1,6 +1,6 @@
 -- Heaps that cheat, written down: each breaks a named fact of a demand (proofs/Worthless). Assumes nothing.
 use Prim.Native.Nat.{ℕ, suc, _-_}
-use mathlib.Core.Bool.{cond}
+use mathlib.Core.Bool.{cond, _&&_}
 use mathlib.Core.Option.{Option, none, some}
 use mathlib.Core.List.{List, [], _∷_, map}
 use lib.Dec.{eqb}
@@ -12,7 +12,7 @@ use Rattle.rules.specs.declared.Call.the-variants.{New, Do, Settle}
 use Rattle.rules.specs.declared.Sizes.{Sizes}
 use Rattle.rules.specs.Heap.{Heap}
 use Rattle.rules.specs.Settle.{replayed, settled}
-use Rattle.rules.specs.Call.{Answer, answer, unless, check, callsIn}
+use Rattle.rules.specs.Call.{Answer, answer, unless, var, check, sameCell, callsIn}
 use Rattle.rules.specs.Step.{Stepped, refused, noneFree, wants, counted, settledIf, acted, Result, step, batch}
 use Rattle.rules.specs.Rows.{Lent, rowsOf, headOf, heapOf}
 use Rattle.rules.specs.Refusals.{Batched, outcome, leavesWith, cleared, answered, freshOf, auditOf, batchOf}
@@ -138,3 +138,28 @@ stepClearing s Settle h = step s Settle h
 
 abbrev pub clearsAtFourteen : Heaps
 clearsAtFourteen = withBatch (workedBy stepClearing settled)
+
+-- at 14 the log is emptied unread
+abbrev pub stepLosing : Sizes → Call → Heap → Stepped
+stepLosing s (New v) h =
+    let o = step s (New v) h in
+    cond (eqb (o .answer .status) 14) (refused (record { shape = h .shape; first = h .first; tables = h .tables; log = []; freed = h .freed }) 14) o
+stepLosing s (Do d) h = step s (Do d) h
+stepLosing s Settle h = step s Settle h
+
+abbrev pub losesTheLog : Heaps
+losesTheLog = withBatch (workedBy stepLosing settled)
+
+-- a cell that comes back to v is not counted as freed
+abbrev pub stepReusing : Sizes → Call → Heap → Stepped
+stepReusing s (New v) h =
+    let o = step s (New v) h in
+    let k = o .heap in
+    cond (eqb (o .answer .status) 0 && sameCell (var (h .shape) v) (var (k .shape) v))
+    (record { heap = record { shape = k .shape; first = k .first; tables = k .tables; log = k .log; freed = k .freed - 1 }; answer = o .answer })
+    o
+stepReusing s (Do d) h = step s (Do d) h
+stepReusing s Settle h = step s Settle h
+
+abbrev pub reusesUncounted : Heaps
+reusesUncounted = withBatch (workedBy stepReusing settled)

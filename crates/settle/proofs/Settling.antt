@@ -40,6 +40,10 @@ emptied at u = record { len = 0; first = at .first; used = u; freed = at .freed 
 abbrev tabled : HeapRows → TableRows → HeapRows
 tabled r t = record { kinds = r .kinds; values = r .values; tables = t }
 
+-- the rows of cells and tables, with these variables, log and work row
+abbrev withVariables : List ℤ → HeapRows → List ℕ → List ℕ → Lent
+withVariables vs r log work = record { kinds = r .kinds; values = r .values; variables = vs; tables = r .tables; log = log; work = work }
+
 -- rows that are replayed
 replayed-rows : {n cap : ℕ} {r : HeapRows} {t : TableRows} {at : State} {u : Used} {h : Heap} → Rows n cap r at h → Ready n cap t u (replay cap (h .log) (h .tables)) → Rows n cap (tabled r t) (emptied at u) (replayed cap h)
 unfolding replayed
@@ -68,7 +72,7 @@ module _ {s : Sizes} {r : Lent} {at : State} {t : TableRows} {u : Used} {work : 
 
   module _ {r′ : HeapRows} {log work′ : List ℕ} {o : State} (reclaims : Reclaims (s .cap) (length work) work (tabled (heapRows r) t) (emptied at u) r′ o)
       (log-clear : log ≡ replicate (length (r .log)) 0) (work-clear : work′ ≡ replicate (length work) 0) where
-    pub settled-by : Settles s r at (record { kinds = r′ .kinds; values = r′ .values; variables = r .variables; tables = r′ .tables; log = log; work = work′ }) o
+    pub settled-by : Settles s r at (withVariables (r .variables) r′ log work′) o
     unfolding settledBy replayed
     settled-by own hs h W e =
         let M = marks-by W hs e in
@@ -104,10 +108,6 @@ pub settleable : {s : Sizes} {r : Lent} {at : State} {h : Heap} → Whole s r at
 settleable {r = r} {h = h} W few = record { heap = h; own = r .variables; holds = h .shape .variables; whole = W; counted = W .variables-are; few = few }
 
 -- ---- the settle before a call
-
--- the rows of cells and tables, with these variables, log and work row
-abbrev withVariables : List ℤ → HeapRows → List ℕ → List ℕ → Lent
-withVariables vs r log work = record { kinds = r .kinds; values = r .values; variables = vs; tables = r .tables; log = log; work = work }
 
 -- where none is made the rows stay
 pub room-as-is : (c : Call) {make : Bool} {s : Sizes} {r : Lent} {at : State} → make ≡ false → MakesRoom c make s r at r at
