@@ -23,10 +23,10 @@ use Rattle.rules.specs.Rules.{replay}
 use Rattle.rules.specs.Call.{drops, var, at, isHeld, want, makes, logs, write, hold, toCell, target, act, isBelow, isNought, isSigned32, given, number, callOf, andThen, callsOf, callsIn, InRange, Fits, AllFit, refuses}
 use Rattle.rules.specs.Settle.{holds}
 use Rattle.rules.specs.Head.{Limits}
-use Rattle.rules.specs.Invariant.{hit, refs, used, live, Counted, Good, Fitting, Small}
+use Rattle.rules.specs.Invariant.{hit, refs, used, live, Counted, Good, Fitting, Small, lives}
 use Rattle.rules.proofs.Exact.{gains, drop-counted, gain-counted}
 use Rattle.rules.proofs.Sorted.{small-append, replay-append}
-use Rattle.rules.proofs.Cells.{live-in, live-below, place-in, place-in-1, live-store-0, live-store-1, refs-store, length-store, cell-live, drops-small, lives, lives-store}
+use Rattle.rules.proofs.Cells.{live-in, live-below, place-in, place-in-1, live-store-0, live-store-1, refs-store, length-store, cell-live, drops-small, lives-store}
 
 -- ---- variables
 

@@ -14,7 +14,7 @@ use Rattle.rules.specs.declared.Field.{Field}
 use Rattle.rules.specs.declared.Field.the-variants.{Nothing, Figure, Cell, Free}
 use Rattle.rules.specs.Heap.{Tables, place, field, store}
 use Rattle.rules.specs.Call.{drops}
-use Rattle.rules.specs.Invariant.{hit, refs, used, live, Good, Fitting, Small}
+use Rattle.rules.specs.Invariant.{hit, refs, used, live, Good, Fitting, Small, lives}
 use Rattle.rules.proofs.Tables.{eqb-self}
 use Rattle.rules.proofs.Exact.{refs-set}
 use Rattle.rules.proofs.Lists.{set-each}
@@ -133,12 +133,6 @@ unfolding store
 figures-store fs a f x u p i = set-each Fitting fs (place a f) i x Nothing u (p i)
 
 -- ---- how many cells are in use
-
--- the cells in use
-abbrev pub lives : List Field → ℕ
-lives [] = 0
-lives (f ∷ []) = 0
-lives (f ∷ g ∷ fs) = cond (used f) 1 0 + lives fs
 
 lives-set : (fs : List Field) (a i : ℕ) (x : Field) → i ≡ 2 * a → suc i < length fs → lives (set fs i x) + cond (used (getD fs i (Free 0))) 1 0 ≡ lives fs + cond (used x) 1 0
 lives-set [] a i x e h = absurd (omega arith)

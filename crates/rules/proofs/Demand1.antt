@@ -22,62 +22,61 @@ use Rattle.rules.specs.Step.{step, calls, unfreed, batch, fresh}
 use Rattle.rules.specs.Rows.{Lent, rowsOf, heapOf}
 use Rattle.rules.specs.Sound.{Sound, Sized}
 use Rattle.rules.specs.Refusals.{Batched, outcome, leaves, leavesWith, cleared, isSized, isSound, answerWords, answered, accepted, checkSound, checkAnswers, checkCalls, freshOf, auditOf, batchOf}
-use Rattle.rules.specs.Run.{ours, said}
-use Rattle.rules.specs.Invariant.{Inv}
-use Rattle.rules.specs.Demands.{Callable, TooShort, Exactly, AllListed, ReadSays, Demand1}
+use Rattle.rules.specs.Run.{ours, Batch, handIn, said}
+use Rattle.rules.specs.Moment.{moment}
+use Rattle.rules.specs.Demands.{Asks, Accepted, statusAt, Callable, TooShort, Exactly, AllListed, ReadSays, BatchRefuses, CallRefused, Demand1}
 use Rattle.rules.proofs.Calls.{calls-in-fit, fit-parts}
-use Rattle.rules.proofs.Step.{counted-from-0}
-use Rattle.rules.proofs.Inside.{heapAfter, calls-end, status-at, all-listed, after-inv, read-after}
-use Rattle.rules.proofs.Entry.{entry-ended}
+use Rattle.rules.proofs.Inside.{all-listed, read-after}
+use Rattle.rules.proofs.Beside.{moment-inv, end-there, status-there, idle-left, same-as, left-out}
 use Rattle.rules.proofs.Tests.{sized-true, sized-false, true-sized, false-sized, sound-true, sound-false, true-sound, false-sound}
 
 -- the five ways of a batch
-pub data Way (h : Head) (r : Lent) (ws row : List ℤ) (o : Batched) : Type 0 where
-  way-1 : (Sized h r → ⊥) → o ≡ leavesWith (outcome 1 h 0) r row → Way h r ws row o
-  way-2 : Sized h r → callsIn (h .sizes .m) ws ≡ none → o ≡ leavesWith (outcome 2 h 0) r row → Way h r ws row o
-  way-3 : Sized h r → TooShort h ws row → o ≡ leavesWith (outcome 3 h 0) r row → Way h r ws row o
-  way-4 : Sized h r → Callable h ws row → (Sound h r → ⊥) → o ≡ leavesWith (outcome 4 h 0) (cleared h r) row → Way h r ws row o
-  way-0 : Sized h r → (c : Callable h ws row) → Sound h r → o ≡ accepted h r (c .calls) row → Way h r ws row o
+pub data Way (h : Head) (r : Lent) (b : Batch) (o : Batched) : Type 0 where
+  way-1 : (Sized h r → ⊥) → o ≡ leavesWith (outcome 1 h 0) r (b .answers) → Way h r b o
+  way-2 : Sized h r → callsIn (h .sizes .m) (b .calls) ≡ none → o ≡ leavesWith (outcome 2 h 0) r (b .answers) → Way h r b o
+  way-3 : Sized h r → TooShort h b → o ≡ leavesWith (outcome 3 h 0) r (b .answers) → Way h r b o
+  way-4 : Sized h r → Callable h b → (Sound h r → ⊥) → o ≡ leavesWith (outcome 4 h 0) (cleared h r) (b .answers) → Way h r b o
+  way-0 : Sized h r → (c : Callable h b) → Sound h r → o ≡ accepted h r (c .calls) (b .answers) → Way h r b o
 
-module _ (h : Head) (r : Lent) (ws row : List ℤ) where
-  sound-way : Sized h r → (c : Callable h ws row) → (q : Bool) → isSound h r ≡ q → Way h r ws row (cond q (accepted h r (c .calls) row) (leavesWith (outcome 4 h 0) (cleared h r) row))
+module _ (h : Head) (r : Lent) (b : Batch) where
+  sound-way : Sized h r → (c : Callable h b) → (q : Bool) → isSound h r ≡ q → Way h r b (cond q (accepted h r (c .calls) (b .answers)) (leavesWith (outcome 4 h 0) (cleared h r) (b .answers)))
   sound-way z c true e = way-0 z c (sound-true h r e) refl
   sound-way z c false e = way-4 z c (sound-false h r e) refl
 
-  answers-way : Sized h r → (cs : List Call) → callsIn (h .sizes .m) ws ≡ some cs → (q : Bool) → leb (2 * length cs) (length row) ≡ q
-      → Way h r ws row (cond q (checkSound h r cs row) (leavesWith (outcome 3 h 0) r row))
+  answers-way : Sized h r → (cs : List Call) → callsIn (h .sizes .m) (b .calls) ≡ some cs → (q : Bool) → leb (2 * length cs) (length (b .answers)) ≡ q
+      → Way h r b (cond q (checkSound h r cs (b .answers)) (leavesWith (outcome 3 h 0) r (b .answers)))
   unfolding checkSound
   answers-way z cs d true e = sound-way z (record { calls = cs; decoded = d; room = leb-true _ _ e }) (isSound h r) refl
   answers-way z cs d false e = way-3 z (record { calls = cs; decoded = d; short = leb-false _ _ e }) refl
 
-  calls-way : Sized h r → (o : Option (List Call)) → callsIn (h .sizes .m) ws ≡ o → Way h r ws row (checkCalls h r o row)
+  calls-way : Sized h r → (o : Option (List Call)) → callsIn (h .sizes .m) (b .calls) ≡ o → Way h r b (checkCalls h r o (b .answers))
   unfolding checkCalls checkAnswers
   calls-way z none d = way-2 z d refl
-  calls-way z (some cs) d = answers-way z cs d (leb (2 * length cs) (length row)) refl
+  calls-way z (some cs) d = answers-way z cs d (leb (2 * length cs) (length (b .answers))) refl
 
-  pub way : Way h r ws row (batchOf h r ws row)
+  pub way : Way h r b (handIn ours h r b)
   unfolding batchOf
   way = go (isSized h r) refl
     where
-      go : (q : Bool) → isSized h r ≡ q → Way h r ws row (cond q (checkCalls h r (callsIn (h .sizes .m) ws) row) (leavesWith (outcome 1 h 0) r row))
-      go true e = calls-way (sized-true h r e) (callsIn (h .sizes .m) ws) refl
+      go : (q : Bool) → isSized h r ≡ q → Way h r b (cond q (checkCalls h r (callsIn (h .sizes .m) (b .calls)) (b .answers)) (leavesWith (outcome 1 h 0) r (b .answers)))
+      go true e = calls-way (sized-true h r e) (callsIn (h .sizes .m) (b .calls)) refl
       go false e = way-1 (sized-false h r e) refl
 
   -- the reasons exclude one another
-  none-callable : callsIn (h .sizes .m) ws ≡ none → Callable h ws row → ⊥
+  none-callable : callsIn (h .sizes .m) (b .calls) ≡ none → Callable h b → ⊥
   none-callable e c = let d = c .decoded in let z : _≡_ {A = ℕ} 0 1 = cc in omega arith
 
-  none-short : callsIn (h .sizes .m) ws ≡ none → TooShort h ws row → ⊥
+  none-short : callsIn (h .sizes .m) (b .calls) ≡ none → TooShort h b → ⊥
   none-short e c = let d = c .decoded in let z : _≡_ {A = ℕ} 0 1 = cc in omega arith
 
-  pub same-calls : (cs ds : List Call) → callsIn (h .sizes .m) ws ≡ some cs → callsIn (h .sizes .m) ws ≡ some ds → cs ≡ ds
+  pub same-calls : (cs ds : List Call) → callsIn (h .sizes .m) (b .calls) ≡ some cs → callsIn (h .sizes .m) (b .calls) ≡ some ds → cs ≡ ds
   same-calls cs ds e f = cc
 
-  short-callable : TooShort h ws row → Callable h ws row → ⊥
+  short-callable : TooShort h b → Callable h b → ⊥
   short-callable s c =
       let e = ap length (same-calls (s .calls) (c .calls) (s .decoded) (c .decoded)) in
       let a = s .short in
-      let b = c .room in
+      let d = c .room in
       omega arith
 
   -- a way that is the reason's own, and one that is another's
@@ -89,42 +88,42 @@ module _ (h : Head) (r : Lent) (ws row : List ℤ) where
       let no : o .outcome .status ≡ k → ⊥ = λ q. d (sym (ap (λ (x : Batched). x .outcome .status) e ∙ s) ∙ q) in
       record { when = λ p. absurd (n p); only = λ q. absurd (no q); left = λ q. absurd (no q) }
 
-  accepted-0 : (cs : List Call) → accepted h r cs row .outcome .status ≡ 0
+  accepted-0 : (cs : List Call) → accepted h r cs (b .answers) .outcome .status ≡ 0
   unfolding accepted
   accepted-0 cs = refl
 
-  exactly-1 : {o : Batched} → Way h r ws row o → Exactly (Sized h r → ⊥) 1 o (leavesWith (outcome 1 h 0) r row)
+  exactly-1 : {o : Batched} → Way h r b o → Exactly (Sized h r → ⊥) 1 o (leavesWith (outcome 1 h 0) r (b .answers))
   exactly-1 (way-1 n e) = own n refl e
-  exactly-1 (way-2 z c e) = other (leavesWith (outcome 2 h 0) r row) (λ n. n z) (omega arith) refl e
-  exactly-1 (way-3 z s e) = other (leavesWith (outcome 3 h 0) r row) (λ n. n z) (omega arith) refl e
-  exactly-1 (way-4 z c u e) = other (leavesWith (outcome 4 h 0) (cleared h r) row) (λ n. n z) (omega arith) refl e
-  exactly-1 (way-0 z c u e) = other (accepted h r (c .calls) row) (λ n. n z) (omega arith) (accepted-0 (c .calls)) e
+  exactly-1 (way-2 z c e) = other (leavesWith (outcome 2 h 0) r (b .answers)) (λ n. n z) (omega arith) refl e
+  exactly-1 (way-3 z s e) = other (leavesWith (outcome 3 h 0) r (b .answers)) (λ n. n z) (omega arith) refl e
+  exactly-1 (way-4 z c u e) = other (leavesWith (outcome 4 h 0) (cleared h r) (b .answers)) (λ n. n z) (omega arith) refl e
+  exactly-1 (way-0 z c u e) = other (accepted h r (c .calls) (b .answers)) (λ n. n z) (omega arith) (accepted-0 (c .calls)) e
 
-  exactly-2 : {o : Batched} → Way h r ws row o → Exactly (Sized h r × (callsIn (h .sizes .m) ws ≡ none)) 2 o (leavesWith (outcome 2 h 0) r row)
-  exactly-2 (way-1 n e) = other (leavesWith (outcome 1 h 0) r row) (λ p. n (p .0)) (omega arith) refl e
+  exactly-2 : {o : Batched} → Way h r b o → Exactly (Sized h r × (callsIn (h .sizes .m) (b .calls) ≡ none)) 2 o (leavesWith (outcome 2 h 0) r (b .answers))
+  exactly-2 (way-1 n e) = other (leavesWith (outcome 1 h 0) r (b .answers)) (λ p. n (p .0)) (omega arith) refl e
   exactly-2 (way-2 z c e) = own (z, c) refl e
-  exactly-2 (way-3 z s e) = other (leavesWith (outcome 3 h 0) r row) (λ p. none-short (p .1) s) (omega arith) refl e
-  exactly-2 (way-4 z c u e) = other (leavesWith (outcome 4 h 0) (cleared h r) row) (λ p. none-callable (p .1) c) (omega arith) refl e
-  exactly-2 (way-0 z c u e) = other (accepted h r (c .calls) row) (λ p. none-callable (p .1) c) (omega arith) (accepted-0 (c .calls)) e
+  exactly-2 (way-3 z s e) = other (leavesWith (outcome 3 h 0) r (b .answers)) (λ p. none-short (p .1) s) (omega arith) refl e
+  exactly-2 (way-4 z c u e) = other (leavesWith (outcome 4 h 0) (cleared h r) (b .answers)) (λ p. none-callable (p .1) c) (omega arith) refl e
+  exactly-2 (way-0 z c u e) = other (accepted h r (c .calls) (b .answers)) (λ p. none-callable (p .1) c) (omega arith) (accepted-0 (c .calls)) e
 
-  exactly-3 : {o : Batched} → Way h r ws row o → Exactly (Sized h r × TooShort h ws row) 3 o (leavesWith (outcome 3 h 0) r row)
-  exactly-3 (way-1 n e) = other (leavesWith (outcome 1 h 0) r row) (λ p. n (p .0)) (omega arith) refl e
-  exactly-3 (way-2 z c e) = other (leavesWith (outcome 2 h 0) r row) (λ p. none-short c (p .1)) (omega arith) refl e
+  exactly-3 : {o : Batched} → Way h r b o → Exactly (Sized h r × TooShort h b) 3 o (leavesWith (outcome 3 h 0) r (b .answers))
+  exactly-3 (way-1 n e) = other (leavesWith (outcome 1 h 0) r (b .answers)) (λ p. n (p .0)) (omega arith) refl e
+  exactly-3 (way-2 z c e) = other (leavesWith (outcome 2 h 0) r (b .answers)) (λ p. none-short c (p .1)) (omega arith) refl e
   exactly-3 (way-3 z s e) = own (z, s) refl e
-  exactly-3 (way-4 z c u e) = other (leavesWith (outcome 4 h 0) (cleared h r) row) (λ p. short-callable (p .1) c) (omega arith) refl e
-  exactly-3 (way-0 z c u e) = other (accepted h r (c .calls) row) (λ p. short-callable (p .1) c) (omega arith) (accepted-0 (c .calls)) e
+  exactly-3 (way-4 z c u e) = other (leavesWith (outcome 4 h 0) (cleared h r) (b .answers)) (λ p. short-callable (p .1) c) (omega arith) refl e
+  exactly-3 (way-0 z c u e) = other (accepted h r (c .calls) (b .answers)) (λ p. short-callable (p .1) c) (omega arith) (accepted-0 (c .calls)) e
 
-  exactly-4 : {o : Batched} → Way h r ws row o → Exactly (Sized h r × Callable h ws row × (Sound h r → ⊥)) 4 o (leavesWith (outcome 4 h 0) (cleared h r) row)
-  exactly-4 (way-1 n e) = other (leavesWith (outcome 1 h 0) r row) (λ p. n (p .0)) (omega arith) refl e
-  exactly-4 (way-2 z c e) = other (leavesWith (outcome 2 h 0) r row) (λ p. none-callable c (p .1)) (omega arith) refl e
-  exactly-4 (way-3 z s e) = other (leavesWith (outcome 3 h 0) r row) (λ p. short-callable s (p .1)) (omega arith) refl e
+  exactly-4 : {o : Batched} → Way h r b o → Exactly (Sized h r × Callable h b × (Sound h r → ⊥)) 4 o (leavesWith (outcome 4 h 0) (cleared h r) (b .answers))
+  exactly-4 (way-1 n e) = other (leavesWith (outcome 1 h 0) r (b .answers)) (λ p. n (p .0)) (omega arith) refl e
+  exactly-4 (way-2 z c e) = other (leavesWith (outcome 2 h 0) r (b .answers)) (λ p. none-callable c (p .1)) (omega arith) refl e
+  exactly-4 (way-3 z s e) = other (leavesWith (outcome 3 h 0) r (b .answers)) (λ p. short-callable s (p .1)) (omega arith) refl e
   exactly-4 (way-4 z c u e) = own (z, c, u) refl e
-  exactly-4 (way-0 z c u e) = other (accepted h r (c .calls) row) (λ p. p .2 u) (omega arith) (accepted-0 (c .calls)) e
+  exactly-4 (way-0 z c u e) = other (accepted h r (c .calls) (b .answers)) (λ p. p .2 u) (omega arith) (accepted-0 (c .calls)) e
 
   status-of : {o what : Batched} (k : ℕ) → what .outcome .status ≡ k → o ≡ what → o .outcome .status ≡ k
   status-of k s e = ap (λ (x : Batched). x .outcome .status) e ∙ s
 
-  accepts : {o : Batched} → Way h r ws row o → Sized h r → Callable h ws row → Sound h r → o .outcome .status ≡ 0
+  accepts : {o : Batched} → Way h r b o → Sized h r → Callable h b → Sound h r → o .outcome .status ≡ 0
   accepts (way-1 n e) z c u = absurd (n z)
   accepts (way-2 y d e) z c u = absurd (none-callable d c)
   accepts (way-3 y s e) z c u = absurd (short-callable s c)
@@ -134,50 +133,55 @@ module _ (h : Head) (r : Lent) (ws row : List ℤ) where
   -- what an accepted batch had, and what it left
   pub record Accepts (o : Batched) : Type 0 where
     pub sized : Sized h r
-    pub callable : Callable h ws row
+    pub callable : Callable h b
     pub sound : Sound h r
-    pub left : o ≡ accepted h r (callable .calls) row
+    pub left : o ≡ accepted h r (callable .calls) (b .answers)
 
   no-status : {A : Type 0} {o : Batched} (what : Batched) {k : ℕ} → what .outcome .status ≡ suc k → o ≡ what → o .outcome .status ≡ 0 → A
   no-status what s e z = let f = status-of _ s e in absurd (omega arith)
 
-  taken-of : {o : Batched} → Way h r ws row o → o .outcome .status ≡ 0 → Accepts o
-  taken-of (way-1 n e) s = no-status (leavesWith (outcome 1 h 0) r row) refl e s
-  taken-of (way-2 y d e) s = no-status (leavesWith (outcome 2 h 0) r row) refl e s
-  taken-of (way-3 y d e) s = no-status (leavesWith (outcome 3 h 0) r row) refl e s
-  taken-of (way-4 y d n e) s = no-status (leavesWith (outcome 4 h 0) (cleared h r) row) refl e s
+  taken-of : {o : Batched} → Way h r b o → o .outcome .status ≡ 0 → Accepts o
+  taken-of (way-1 n e) s = no-status (leavesWith (outcome 1 h 0) r (b .answers)) refl e s
+  taken-of (way-2 y d e) s = no-status (leavesWith (outcome 2 h 0) r (b .answers)) refl e s
+  taken-of (way-3 y d e) s = no-status (leavesWith (outcome 3 h 0) r (b .answers)) refl e s
+  taken-of (way-4 y d n e) s = no-status (leavesWith (outcome 4 h 0) (cleared h r) (b .answers)) refl e s
   taken-of (way-0 y d w e) s = record { sized = y; callable = d; sound = w; left = e }
 
-  pub taken : batchOf h r ws row .outcome .status ≡ 0 → Accepts (batchOf h r ws row)
+  taken : Accepted (handIn ours h r b) → Accepts (handIn ours h r b)
   taken s = taken-of way s
 
-  -- what is left where nothing refuses
-  pub accepted-as : (cs : List Call) → Sized h r → callsIn (h .sizes .m) ws ≡ some cs → 2 * length cs ≤ length row → Sound h r → batchOf h r ws row ≡ accepted h r cs row
-  accepted-as cs z d k u =
-      let t = taken (accepts way z (record { calls = cs; decoded = d; room = k }) u) in
-      t .left ∙ ap (λ (ds : List Call). accepted h r ds row) (same-calls (t .callable .calls) cs (t .callable .decoded) d)
-
--- a batch that is accepted, and another with no more calls from the same rows
-pub record Both (h : Head) (r : Lent) (us ws row : List ℤ) (cs es : List Call) : Type 0 where
+-- an accepted batch of the calls cs: what it had, and what it left
+pub record Took (h : Head) (r : Lent) (b : Batch) (cs : List Call) : Type 0 where
   pub sized : Sized h r
   pub sound : Sound h r
-  pub fit : AllFit (h .sizes .m) es
-  pub left : batchOf h r ws row ≡ accepted h r es row
-  pub left′ : batchOf h r us row ≡ accepted h r cs row
+  pub room : 2 * length cs ≤ length (b .answers)
+  pub fit : AllFit (h .sizes .m) cs
+  pub left : handIn ours h r b ≡ accepted h r cs (b .answers)
 
-pub both : (h : Head) (r : Lent) (us ws row : List ℤ) (cs es : List Call) → callsIn (h .sizes .m) us ≡ some cs → callsIn (h .sizes .m) ws ≡ some es → length cs ≤ length es
-    → batchOf h r ws row .outcome .status ≡ 0 → Both h r us ws row cs es
-both h r us ws row cs es d e l a =
-    let t = taken h r ws row a in
-    let q = same-calls h r ws row (t .callable .calls) es (t .callable .decoded) e in
-    let room : 2 * length cs ≤ length row = let n = ap length q in let k = t .callable .room in omega arith in
+pub took : (h : Head) (r : Lent) (b : Batch) (cs : List Call) → Asks h b cs → Accepted (handIn ours h r b) → Took h r b cs
+took h r b cs d a =
+    let t = taken h r b a in
+    let q = same-calls h r b (t .callable .calls) cs (t .callable .decoded) d in
     record {
       sized = t .sized;
       sound = t .sound;
-      fit = calls-in-fit (h .sizes .m) ws es e;
-      left = t .left ∙ ap (λ (ds : List Call). accepted h r ds row) q;
-      left′ = accepted-as h r us row cs (t .sized) d room (t .sound);
+      room = rw q at (t .callable .room);
+      fit = calls-in-fit (h .sizes .m) (b .calls) cs d;
+      left = t .left ∙ ap (λ (ds : List Call). accepted h r ds (b .answers)) q;
     }
+
+-- whatever its calls are
+pub record TookSome (h : Head) (r : Lent) (b : Batch) : Type 0 where
+  pub calls : List Call
+  pub decoded : Asks h b calls
+  pub had : Took h r b calls
+
+pub took-some : (h : Head) (r : Lent) (b : Batch) → Accepted (handIn ours h r b) → TookSome h r b
+took-some h r b a = let c = taken h r b a .callable in record { calls = c .calls; decoded = c .decoded; had = took h r b (c .calls) (c .decoded) a }
+
+-- what a batch leaves where nothing refuses
+pub accepted-as : (h : Head) (r : Lent) (b : Batch) (cs : List Call) → Sized h r → Asks h b cs → 2 * length cs ≤ length (b .answers) → Sound h r → handIn ours h r b ≡ accepted h r cs (b .answers)
+accepted-as h r b cs z d k u = took h r b cs d (accepts h r b (way h r b) z (record { calls = cs; decoded = d; room = k }) u) .left
 
 -- ---- answers: two words for each call
 
@@ -217,40 +221,16 @@ accepted-listed : (h : Head) (r : Lent) (cs : List Call) (row : List ℤ) → Al
 unfolding accepted answered batch
 accepted-listed h r cs row = let k = unfreed (heapOf h r) in all-listed (h .sizes) cs k (drop (2 * length (calls (h .sizes) cs k .answers)) row)
 
--- ---- a call after the calls cs of an accepted batch
+-- ---- a read
 
-module _ {h : Head} {r : Lent} (Z : Sized h r) (S : Sound h r) (cs : List Call) (F : AllFit (h .sizes .m) cs) where
-  -- the heap before it
-  unfoldable pub before : Heap
-  before = heapAfter (h .sizes) cs (unfreed (heapOf h r))
-
-  pub before-inv : Inv (h .sizes) before
-  unfolding before
-  before-inv = let ok = Z .within .limits in after-inv (h .sizes) ok cs (unfreed (heapOf h r)) (counted-from-0 (h .sizes) ok (heapOf h r) (entry-ended Z S .inv)) F
-
-  -- its status
-  pub status-there : (row : List ℤ) (c : Call) (ds : List Call) → getD (accepted h r (cs ++ c ∷ ds) row .answers) (2 * length cs) (negsuc 0) ≡ pos (step (h .sizes) c before .answer .status)
-  unfolding accepted answered batch before
-  status-there row c ds = let s = h .sizes in let k = unfreed (heapOf h r) in status-at s cs ds c k (drop (2 * length (calls s (cs ++ c ∷ ds) k .answers)) row)
-
--- a read
-module _ (h : Head) (r : Lent) (row : List ℤ) (cs ds : List Call) (v f : ℕ) where
-  abbrev es : List Call
-  es = cs ++ Do (Read v f) ∷ ds
-
-  accepted-read : Sized h r → Sound h r → AllFit (h .sizes .m) es → ReadSays (accepted h r cs row .rows) v f (getD (accepted h r es row .answers) (2 * length cs) (negsuc 0))
-  unfolding accepted batch before
-  accepted-read Z S F =
+module _ {h : Head} {r : Lent} (Z : Sized h r) (S : Sound h r) (cs ds : List Call) (v f : ℕ) (row row′ : List ℤ) where
+  accepted-read : AllFit (h .sizes .m) (cs ++ Do (Read v f) ∷ ds) → ReadSays (accepted h r cs row′ .rows) v f (statusAt (accepted h r (cs ++ Do (Read v f) ∷ ds) row) cs)
+  unfolding accepted
+  accepted-read F =
       let s = h .sizes in
       let p = fit-parts (s .m) cs (Do (Read v f) ∷ ds) F in
-      rw (calls-end s cs (unfreed (heapOf h r)), status-there Z S cs (p .0) row (Do (Read v f)) ds)
-      (read-after s (Z .within .limits) (before Z S cs (p .0)) (before-inv Z S cs (p .0)) v f (p .1 .0 .1))
-
-  reads : (us ws : List ℤ) → callsIn (h .sizes .m) us ≡ some cs → callsIn (h .sizes .m) ws ≡ some es → batchOf h r ws row .outcome .status ≡ 0
-      → ReadSays (batchOf h r us row .rows) v f (getD (batchOf h r ws row .answers) (2 * length cs) (negsuc 0))
-  reads us ws d e a =
-      let B = both h r us ws row cs es d e (let l = length-append cs (Do (Read v f) ∷ ds) in omega arith) a in
-      rw (B .left′, B .left) (accepted-read (B .sized) (B .sound) (B .fit))
+      rw (end-there h r cs, status-there h r cs ds (Do (Read v f)) row)
+      (read-after s (Z .within .limits) (moment h r cs) (moment-inv Z S cs (p .0)) v f (p .1 .0 .1))
 
 -- ---- fresh and audit
 
@@ -288,26 +268,50 @@ module _ (h : Head) (r : Lent) where
   unfolding auditOf
   audit-0 z u = rw (true-sized h r z, true-sound h r u)
 
+-- ---- of one batch
+
+module _ (h : Head) (r : Lent) (b : Batch) where
+  no-change : Took h r b [] → handIn ours h r b ≡ leavesWith (outcome 0 h 0) (cleared h r) (b .answers)
+  no-change t = t .left ∙ idle-left (t .sized) (t .sound) (b .answers)
+
+  pub batch-refuses : BatchRefuses h r b (handIn ours h r b)
+  batch-refuses =
+      let w = way h r b in
+      record {
+        refused-1 = exactly-1 h r b w;
+        refused-2 = exactly-2 h r b w;
+        refused-3 = exactly-3 h r b w;
+        refused-4 = exactly-4 h r b w;
+        accepted-else = accepts h r b w;
+        work-zero = λ a. let t = took-some h r b a in rw (t .had .left) (work-0 h r (t .calls) (b .answers));
+        answers-past = λ cs d a. let t = took h r b cs d a in rw (t .left) (accepted-past h r (b .answers) cs (t .room));
+        refused-11-to-15 = λ cs d a. let t = took h r b cs d a in rw (t .left) (accepted-listed h r cs (b .answers));
+        no-call-no-change = λ d a. no-change (took h r b [] d a);
+      }
+
+-- ---- of two batches on the same rows
+
+module _ (h : Head) (r : Lent) (b c : Batch) where
+  pub call-refused : CallRefused h r b c (handIn ours h r b) (handIn ours h r c)
+  call-refused =
+      record {
+        refused-as-left-out = λ cs ds x k d e a a′ o n.
+            let t = took h r b (cs ++ x ∷ ds) d a in
+            let u = took h r c (cs ++ ds) e a′ in
+            same-as (t .left) (u .left) (left-out h r cs ds x k (b .answers) (c .answers) (rw (t .left) at o) n);
+        fifteen-exactly = λ cs ds v f d e a a′.
+            let t = took h r b (cs ++ Do (Read v f) ∷ ds) d a in
+            let u = took h r c cs e a′ in
+            rw (t .left, u .left) (accepted-read (t .sized) (t .sound) cs ds v f (b .answers) (c .answers) (t .fit));
+      }
+
 -- ---- the demand
 
 pub demand-1 : Demand1 ours
 demand-1 =
     record {
-      refused-1 = λ h r ws row. exactly-1 h r ws row (way h r ws row);
-      refused-2 = λ h r ws row. exactly-2 h r ws row (way h r ws row);
-      refused-3 = λ h r ws row. exactly-3 h r ws row (way h r ws row);
-      refused-4 = λ h r ws row. exactly-4 h r ws row (way h r ws row);
-      accepted-else = λ h r ws row. accepts h r ws row (way h r ws row);
-      work-zero = λ h r ws row s. let t = taken h r ws row s in ap (λ (o : Batched). o .rows .work) (t .left) ∙ work-0 h r (t .callable .calls) row;
-      answers-past = λ h r ws row cs e s.
-          let t = taken h r ws row s in
-          let q = same-calls h r ws row (t .callable .calls) cs (t .callable .decoded) e in
-          rw (t .left, q) (accepted-past h r row cs (rw q at (t .callable .room)));
-      refused-11-to-15 = λ h r ws row cs e s.
-          let t = taken h r ws row s in
-          let q = same-calls h r ws row (t .callable .calls) cs (t .callable .decoded) e in
-          rw (t .left, q) (accepted-listed h r cs row);
-      fifteen-exactly = λ h r us ws row cs ds v f. reads h r row cs ds v f us ws;
+      batch-refuses = batch-refuses;
+      call-refused = call-refused;
       fresh-refuses-only-1 = λ s r. (fresh-refused s r, fresh-accepted s r);
       audit-refuses-only-1-and-4 = λ h r. (audit-1 h r, audit-4 h r, audit-0 h r);
     }

@@ -1,15 +1,15 @@
 -- Demand 2 of our heap: tables as the rules give them, exact counts, all and only what may go is freed, 14 exactly when full. Assumes nothing.
-use Prim.Native.Nat.{ℕ, zero, suc, _+_, _*_, _<_, _≤_}
+use Prim.Native.Nat.{ℕ, zero, suc, _+_, _*_, _-_, _<_, _≤_}
 use mathlib.Core.Path.{_≡_, refl, sym, ap, ap₂, _∙_, subst}
 use mathlib.Core.Logic.{_↔_}
 use mathlib.Core.Bool.{Bool, true, false}
 use mathlib.Core.Option.{none, some}
-use mathlib.Core.List.{List, [], _∷_, _++_, map}
+use mathlib.Core.List.{List, [], _∷_, _++_, map, append-nil}
 use native.Mathlib.Omega.{arith}
-use lib.ListN.{length, getD, drop, length-append, List·getD-map}
-use lib.Seq.{getD-set-same, drop-drop}
+use lib.ListN.{length, getD, drop, List·getD-map}
+use lib.Seq.{getD-set-same}
 use lib.IntN.{ℤ, pos, negsuc}
-use borrow.Author.Tests.{lt-ltb, le-ltb, ne-eqb}
+use borrow.Author.Tests.{le-ltb, ne-eqb}
 use Rattle.rules.specs.declared.Head.{Head}
 use Rattle.rules.specs.declared.Field.{Field}
 use Rattle.rules.specs.declared.Field.the-variants.{Nothing, Figure, Cell, Free}
@@ -17,28 +17,34 @@ use Rattle.rules.specs.declared.Call.{Call}
 use Rattle.rules.specs.declared.Deed.the-variants.{Clear}
 use Rattle.rules.specs.declared.Call.the-variants.{New, Do, Settle}
 use Rattle.rules.specs.declared.Sizes.{Sizes}
-use Rattle.rules.specs.Field.{kindOf, variableOf}
+use Rattle.rules.specs.Head.{Limits}
+use Rattle.rules.specs.Field.{kindOf, valueOf, variableOf}
 use Rattle.rules.specs.Heap.{Heap, place, field}
 use Rattle.rules.specs.Settle.{settled}
-use Rattle.rules.specs.Call.{Answer, AllFit, callOf, callsOf, callsIn, wordsOf, hold}
-use Rattle.rules.specs.Step.{Stepped, full, noneFree, wants, settledIf, takeCell, doNew, acted, run, step, calls, unfreed, batch}
-use Rattle.rules.specs.Rows.{Lent, rowsOf, headOf, heapOf}
-use Rattle.rules.specs.Sound.{Sound, Sized, heldAmong, times}
-use Rattle.rules.specs.Refusals.{Batched, outcome, leavesWith, answerWords, answered, accepted, batchOf, auditOf, isSound}
-use Rattle.rules.specs.Run.{ours, said}
-use Rattle.rules.specs.Demands.{handedOut, freeCells, SameFrom, saying, Demand2}
-use Rattle.rules.specs.Invariant.{Inv}
+use Rattle.rules.specs.Call.{Answer, AllFit, var, hold}
+use Rattle.rules.specs.Step.{Stepped, Result, full, noneFree, wants, counted, settledIf, settledFor, takeCell, doNew, acted, run, step, calls, unfreed, batch}
+use Rattle.rules.specs.Rows.{Lent, fieldsOf, rowsOf, headOf, heapOf}
+use Rattle.rules.specs.Sound.{Sound, Sized, mark, kind, word, Live, heldAmong, times}
+use Rattle.rules.specs.Refusals.{Batched, answerWords, answered, accepted, auditOf, isSound}
+use Rattle.rules.specs.Run.{ours, Batch, handIn, said, NotSettle}
+use Rattle.rules.specs.Invariant.{live, lives, Inv, Ended}
+use Rattle.rules.specs.Moment.{heapAfter, moment, SettlesRight, livesIn, freedIn, PointsToItself}
+use Rattle.rules.specs.Demands.{statusAt, valueAt, SameBut, FreesExactly, AtCap, handedOut, freeCells, HoldsBlank, BatchSettles, BatchesSettle, SettleEnds, EndsThere, Demand2}
 use Rattle.rules.proofs.Tests.{sound-true, sound-false}
-use Rattle.rules.proofs.Cells.{lives}
-use Rattle.rules.proofs.Calls.{calls-in-fit, fit-parts}
-use Rattle.rules.proofs.Step.{settled-done, step-inv}
-use Rattle.rules.proofs.Roundtrip.{rows-of-heap}
+use Rattle.rules.proofs.Cells.{live-below}
+use Rattle.rules.proofs.Calls.{holds-var, fit-parts}
+use Rattle.rules.proofs.Step.{settled-inv, settled-done, settle-sound, step-inv, counted-from-0}
+use Rattle.rules.proofs.Positions.{live-at, dead-at, kind-at, word-at}
+use Rattle.rules.proofs.Roundtrip.{fields-back, rows-of-heap, batch-of-ended}
 use Rattle.rules.proofs.Whole.{twice}
 use Rattle.rules.proofs.Entry.{entry-ended, exit-ended, exit-sized, exit-sound}
-use Rattle.rules.proofs.Demand1.{Accepts, taken, same-calls, answers-long, audit-0, audit-4, accepted-as, both, before, before-inv, status-there}
+use Rattle.rules.proofs.Demand1.{took, took-some, answers-long, audit-0, audit-4}
 use Rattle.rules.proofs.Facts as facts
-use Rattle.rules.proofs.Inside.{calls-end, calls-after, value-at, words-from, said-alone, words-but, pos-same}
+use Rattle.rules.proofs.Inside.{after-both, held-fields, var-settled, row-variable, said-alone, pos-same}
+use Rattle.rules.proofs.Beside.{moment-inv, heap-there, end-there, status-there, value-there, same-as, same-but, said-own, said-before, said-after}
 use Rattle.rules.proofs.LetGo.{after-clear, fourteen-cleared, kept-settled, as-settle, settle-value}
+use Rattle.rules.proofs.Settles.{calls-on, settle-step, as-settled-before, calls-freed}
+use Rattle.rules.proofs.Stays.{cap-stays, ring-settled}
 
 -- ---- free cells and cells in use
 
@@ -76,15 +82,12 @@ handed-in (c ∷ cs) (a ∷ as′) rest e = let i = handed-in cs as′ rest (ome
 -- ---- an accepted batch
 
 module _ {h : Head} {r : Lent} (Z : Sized h r) (S : Sound h r) (cs : List Call) (F : AllFit (h .sizes .m) cs) where
-  s : Sizes
-  s = h .sizes
-
   kinds-are : map kindOf (heapOf h r .shape .fields) ≡ r .kinds
   unfolding rowsOf
   kinds-are = ap (λ (q : Lent). q .kinds) (rows-of-heap Z S)
 
   count-freed : (row : List ℤ) → freeCells r + accepted h r cs row .outcome .count ≡ freeCells (accepted h r cs row .rows) + handedOut (said cs (accepted h r cs row .answers))
-  unfolding accepted rowsOf answered batch s
+  unfolding accepted rowsOf answered batch
   count-freed row =
       let a = rw kinds-are at (free-in (entry-ended Z S .inv)) in
       let b = free-in (exit-ended Z S cs F .inv) in
@@ -108,16 +111,18 @@ module _ {h : Head} {r : Lent} (Z : Sized h r) (S : Sound h r) (cs : List Call) 
       same-m : (row : List ℤ) → accepted h r cs row .outcome .head .sizes .m ≡ h .sizes .m
       same-m row = unfold accepted headOf in refl
 
+
+-- a cell with the mark is not in use
+marked-dead : (n : ℕ) (fs : List Field) → length fs ≡ 2 * n → (a : ℕ) → mark (map kindOf fs) a ≡ 3 → live fs a ≡ false
+marked-dead n fs len a e = go (live fs a) refl
+  where
+    go : (q : Bool) → live fs a ≡ q → live fs a ≡ false
+    go true l = absurd (live-at n fs len a l .used e)
+    go false l = l
+
 -- ---- a batch of one new
 
-new-calls : (m v : ℕ) → v < m → callsIn m (wordsOf (New v ∷ [])) ≡ some (New v ∷ [])
-unfolding callsIn callsOf callOf
-new-calls m v k = rw (lt-ltb v m k)
-
-module _ {h : Head} {r : Lent} (Z : Sized h r) (S : Sound h r) (v : ℕ) (k : v < h .sizes .m) (row : List ℤ) (room : 2 ≤ length row) where
-  new-left : batchOf h r (wordsOf (New v ∷ [])) row ≡ accepted h r (New v ∷ []) row
-  new-left = accepted-as h r (wordsOf (New v ∷ [])) row (New v ∷ []) Z (new-calls (h .sizes .m) v k) room S
-
+module _ {h : Head} {r : Lent} (Z : Sized h r) (S : Sound h r) (v : ℕ) (fit : AllFit (h .sizes .m) (New v ∷ [])) (row : List ℤ) where
   new-status : getD (accepted h r (New v ∷ []) row .answers) 0 (negsuc 0) ≡ pos (step (h .sizes) (New v) (heapOf h r) .answer .status)
   unfolding accepted answered batch calls heapOf
   new-status = refl
@@ -135,9 +140,6 @@ module _ {h : Head} {r : Lent} (Z : Sized h r) (S : Sound h r) (v : ℕ) (k : v 
     unfolding batch calls heapOf
     new-heap = ap (λ (o : Stepped). settled (h .sizes) (o .heap)) new-taken
 
-    fit : AllFit (h .sizes .m) (New v ∷ [])
-    fit = calls-in-fit (h .sizes .m) (wordsOf (New v ∷ [])) (New v ∷ []) (new-calls (h .sizes .m) v k)
-
     new-holds : getD (batch (h .sizes) (New v ∷ []) (heapOf h r) .heap .shape .variables) v none ≡ some (h .free)
     unfolding takeCell hold heapOf
     new-holds =
@@ -145,139 +147,296 @@ module _ {h : Head} {r : Lent} (Z : Sized h r) (S : Sound h r) (v : ℕ) (k : v 
         let I : Inv (h .sizes) (takeCell v (heapOf h r)) =
         subst (λ (o : Stepped). Inv (h .sizes) (o .heap)) new-taken (step-inv (h .sizes) ok (New v) (heapOf h r) ((entry-ended Z S) .inv) (fit .0)) in
         let e = settled-done (h .sizes) ok (takeCell v (heapOf h r)) I .1 .1 in
-        let long : v < length (heapOf h r .shape .variables) = let g = (entry-ended Z S) .inv .variables-long in omega arith in
+        let long : v < length (heapOf h r .shape .variables) = let g = (entry-ended Z S) .inv .variables-long in let k = fit .0 in omega arith in
         rw (new-heap, e) (getD-set-same (heapOf h r .shape .variables) v (some (h .free)) none long)
 
-    handed : (getD (batchOf h r (wordsOf (New v ∷ [])) row .answers) 0 (negsuc 0) ≡ pos 0) × (getD (batchOf h r (wordsOf (New v ∷ [])) row .rows .variables) v (negsuc 0) ≡ pos (h .free))
-    handed = (
-      ap (λ (o : Batched). getD (o .answers) 0 (negsuc 0)) new-left ∙ new-status ∙ ap (λ (o : Stepped). pos (o .answer .status)) new-taken,
-      ap (λ (o : Batched). getD (o .rows .variables) v (negsuc 0)) new-left ∙ new-row ∙ ap variableOf new-holds,
-    )
+    handed : (statusAt (accepted h r (New v ∷ []) row) [] ≡ pos 0) × (getD (accepted h r (New v ∷ []) row .rows .variables) v (negsuc 0) ≡ pos (h .free))
+    handed = (new-status ∙ ap (λ (o : Stepped). pos (o .answer .status)) new-taken, new-row ∙ ap variableOf new-holds)
       where
         new-row : getD (accepted h r (New v ∷ []) row .rows .variables) v (negsuc 0) ≡ variableOf (getD (batch (h .sizes) (New v ∷ []) (heapOf h r) .heap .shape .variables) v none)
         new-row = unfold accepted rowsOf in List·getD-map variableOf (batch (h .sizes) (New v ∷ []) (heapOf h r) .heap .shape .variables) v none
 
--- ---- a new inside a batch, after the calls cs
+-- ---- at a moment of a batch
 
--- what a batch leaves is told by the heap at its end
-same-left : (s : Sizes) {x y : Heap} → x ≡ y → (outcome 0 (headOf s x) (x .freed) ≡ outcome 0 (headOf s y) (y .freed)) × (rowsOf s x ≡ rowsOf s y)
-same-left s e = (ap (λ (y : Heap). outcome 0 (headOf s y) (y .freed)) e, ap (rowsOf s) e)
+module _ {h : Head} {r : Lent} (Z : Sized h r) (S : Sound h r) (cs : List Call) (F : AllFit (h .sizes .m) cs) where
+  -- every settle of a batch on sound rows is right: the one before any call, the call settle's, and the one at the end, which counts the same holds
+  pub every-settle : (c : Call) → SettlesRight (h .sizes) (counted c (moment h r cs)) (moment h r cs)
+  every-settle c = facts.settles-right (h .sizes) (Z .within .limits) c (moment h r cs) (moment-inv Z S cs F)
 
-module _ {h : Head} {r : Lent} (Z : Sized h r) (S : Sound h r) (cs : List Call) (F : AllFit (h .sizes .m) cs) (v : ℕ) (row : List ℤ) where
-  -- the heap before it
-  abbrev now : Heap
-  now = before Z S cs F
+  ended-there : Ended (h .sizes) (settled (h .sizes) (moment h r cs))
+  ended-there = settle-sound (h .sizes) (Z .within .limits) (moment h r cs) (moment-inv Z S cs F)
 
-  now-inv : Inv (h .sizes) now
-  now-inv = before-inv Z S cs F
+  -- the rows that the batch of these calls leaves
+  rows-there : (row : List ℤ) → accepted h r cs row .rows ≡ rowsOf (h .sizes) (settled (h .sizes) (moment h r cs))
+  unfolding accepted
+  rows-there row = ap (rowsOf (h .sizes)) (end-there h r cs)
 
-  status-now : (ds : List Call) → getD (accepted h r (cs ++ New v ∷ ds) row .answers) (2 * length cs) (negsuc 0) ≡ pos (step (h .sizes) (New v) now .answer .status)
-  status-now = status-there Z S cs F row (New v)
-
-  heap-of : (es : List Call) → batch (h .sizes) (cs ++ es) (heapOf h r) .heap ≡ calls (h .sizes) es now .heap
-  unfolding batch before
-  heap-of es = calls-after (h .sizes) cs es (unfreed (heapOf h r))
-
-  fourteen : (ds : List Call) → (getD (accepted h r (cs ++ New v ∷ ds) row .answers) (2 * length cs) (negsuc 0) ≡ pos 14) ↔ (accepted h r (cs ++ Do (Clear v) ∷ []) row .outcome .head .free ≡ h .sizes .n)
-  unfolding accepted headOf calls
-  fourteen ds =
-      let f = fourteen-cleared (h .sizes) (Z .within .limits) v now now-inv in
-      rw (status-now ds, heap-of (Do (Clear v) ∷ [])) (λ e. f .0 (pos-same _ _ e), λ e. ap pos (f .1 e))
-
-  keeps : getD (accepted h r (cs ++ New v ∷ []) row .answers) (2 * length cs) (negsuc 0) ≡ pos 14
-      → (accepted h r (cs ++ New v ∷ []) row .outcome ≡ accepted h r cs row .outcome) × (accepted h r (cs ++ New v ∷ []) row .rows ≡ accepted h r cs row .rows)
-  unfolding accepted batch calls before
-  keeps e =
+  frees-there : (row : List ℤ) → FreesExactly (h .sizes) (moment h r cs) (accepted h r cs row .rows)
+  unfolding rowsOf settled
+  frees-there row =
       let s = h .sizes in
-      let k = unfreed (heapOf h r) in
-      let a = kept-settled s (Z .within .limits) v now now-inv (pos-same _ _ (sym (status-now []) ∙ e)) in
-      let same : calls s (cs ++ New v ∷ []) k .heap ≡ calls s cs k .heap = calls-after s cs (New v ∷ []) k ∙ a ∙ sym (calls-end s cs k) in
-      same-left s same
+      let R = every-settle Settle in
+      let fs = settled s (moment h r cs) .shape .fields in
+      let len = ended-there .inv .good .len in
+      rw (rows-there row)
+      (record {
+        freed = λ a l. (
+          λ e. R .frees-only a l .0 (marked-dead (s .n) fs len a e),
+          λ t. dead-at (s .n) fs len a (live-below (s .n) (moment h r cs .shape .fields) (moment-inv Z S cs F .good .len) a l) (R .frees-only a l .1 t),
+        );
+        free = λ a k d. dead-at (s .n) fs len a k (R .stays-free a d);
+      })
 
-  settles : (ds : List Call) → getD (accepted h r (cs ++ New v ∷ ds) row .answers) (2 * length cs) (negsuc 0) ≡ pos 14
-      → (accepted h r (cs ++ New v ∷ ds) row ≡ saying (2 * length cs) 14 (accepted h r (cs ++ Settle ∷ ds) row)) × (getD (accepted h r (cs ++ Settle ∷ ds) row .answers) (2 * length cs + 1) (negsuc 0) ≡ pos 0)
-  unfolding accepted answered batch calls before
-  settles ds e =
+  ring-there : (P : ℕ → Bool) (row : List ℤ) → PointsToItself (moment h r cs .shape .fields) P → (a : ℕ) → P a ≡ true → Live (h .sizes .n) (accepted h r cs row .rows .kinds) a
+  unfolding rowsOf
+  ring-there P row R a p =
       let s = h .sizes in
+      let Q = ring-settled s (Z .within .limits) (moment h r cs) (moment-inv Z S cs F) P R in
+      rw (rows-there row) (live-at (s .n) (settled s (moment h r cs) .shape .fields) (ended-there .inv .good .len) a (Q .in-use a p))
+
+  capped-there : (row : List ℤ) (a : ℕ) → AtCap h (r .tables) a → AtCap (accepted h r cs row .outcome .head) (accepted h r cs row .rows .tables) a
+  unfolding accepted
+  capped-there row a A = cap-stays Z S cs a (exit-ended Z S cs F .inv) A
+
+  sum-there : (row : List ℤ) → accepted h r cs row .outcome .count ≡ freedIn (h .sizes) cs (unfreed (heapOf h r))
+  unfolding accepted batch
+  sum-there row =
       let ok = Z .within .limits in
       let k = unfreed (heapOf h r) in
-      let w = pos-same _ _ (sym (status-now ds) ∙ e) in
-      let x = settle-value s ok v now now-inv w in
-      let a = as-settle s ok v now now-inv w in
-      let rest = drop (2 * length (calls s (cs ++ Settle ∷ ds) k .answers)) row in
-      let long : length (calls s (cs ++ New v ∷ ds) k .answers) ≡ length (calls s (cs ++ Settle ∷ ds) k .answers) =
-      answers-long s (cs ++ New v ∷ ds) k ∙ length-append cs (New v ∷ ds) ∙ sym (length-append cs (Settle ∷ ds)) ∙ sym (answers-long s (cs ++ Settle ∷ ds) k) in
-      let same : calls s (cs ++ New v ∷ ds) k .heap ≡ calls s (cs ++ Settle ∷ ds) k .heap =
-      calls-after s cs (New v ∷ ds) k ∙ ap (λ (o : Stepped). calls s ds (o .heap) .heap) a ∙ sym (calls-after s cs (Settle ∷ ds) k) in (
-        rw long (ap₂ (λ (y : Heap) (l : List ℤ). leavesWith (outcome 0 (headOf s y) (y .freed)) (rowsOf s y) l) same (words-but s cs ds (New v) Settle k 14 rest x a)),
-        value-at s cs ds Settle k rest ∙ x,
-      )
+      let e = calls-freed (h .sizes) ok cs k (counted-from-0 (h .sizes) ok (heapOf h r) (entry-ended Z S .inv)) F in
+      omega arith
 
-  lets-go : (row′ : List ℤ) (ds : List Call) → getD (accepted h r (cs ++ New v ∷ ds) row .answers) (2 * length cs) (negsuc 0) ≡ pos 0
-      → SameFrom (New v ∷ ds) (2 * length cs) (2 * length cs + 2) (accepted h r (cs ++ New v ∷ ds) row) (accepted h r (cs ++ Do (Clear v) ∷ New v ∷ ds) row′)
-  unfolding accepted answered batch calls before
-  lets-go row′ ds e =
+-- a step that is the same goes on the same
+goes-on : (s : Sizes) (c : Call) (ds : List Call) (x y : Heap) → step s c x ≡ step s c y → calls s (c ∷ ds) x ≡ calls s (c ∷ ds) y
+unfolding calls
+goes-on s c ds x y e = ap (λ (o : Stepped). record { heap = calls s ds (o .heap) .heap; answers = o .answer ∷ calls s ds (o .heap) .answers }) e
+
+-- ---- a call inside a batch, after the calls cs
+
+module _ {h : Head} {r : Lent} (Z : Sized h r) (S : Sound h r) (cs : List Call) (F : AllFit (h .sizes .m) cs) where
+  abbrev s : Sizes
+  s = h .sizes
+
+  abbrev now : Heap
+  now = moment h r cs
+
+  then-call : (c : Call) → moment h r (cs ++ c ∷ []) ≡ step s c now .heap
+  unfolding heapAfter
+  then-call c = after-both s cs (c ∷ []) (unfreed (heapOf h r))
+
+  then-none : moment h r (cs ++ []) ≡ now
+  unfolding heapAfter
+  then-none = after-both s cs [] (unfreed (heapOf h r))
+
+  module _ (v : ℕ) (row row′ : List ℤ) where
+    fourteen : (ds : List Call) → (statusAt (accepted h r (cs ++ New v ∷ ds) row) cs ≡ pos 14) ↔ (accepted h r (cs ++ Do (Clear v) ∷ []) row′ .outcome .head .free ≡ s .n)
+    unfolding accepted headOf calls
+    fourteen ds =
+        let f = fourteen-cleared s (Z .within .limits) v now (moment-inv Z S cs F) in
+        rw (status-there h r cs ds (New v) row, heap-there h r cs (Do (Clear v) ∷ [])) (λ e. f .0 (pos-same _ _ e), λ e. ap pos (f .1 e))
+
+    module _ (ds : List Call) (k : ℕ) (e : statusAt (accepted h r (cs ++ New v ∷ ds) row) cs ≡ pos k) where
+      status-now : step s (New v) now .answer .status ≡ k
+      status-now = pos-same _ _ (sym (status-there h r cs ds (New v) row) ∙ e)
+
+    keeps : statusAt (accepted h r (cs ++ New v ∷ []) row) cs ≡ pos 14 → SameBut cs (New v ∷ []) [] [] (accepted h r (cs ++ New v ∷ []) row) (accepted h r (cs ++ []) row′)
+    unfolding calls
+    keeps e =
+        let a = kept-settled s (Z .within .limits) v now (moment-inv Z S cs F) (status-now [] 14 e) in
+        same-but h r cs [] (New v ∷ []) [] row row′ (λ i. record { heap = (ap (settled s) (then-call (New v)) ∙ a ∙ ap (settled s) (sym then-none)) i; answers = [] })
+
+    settles : (ds : List Call) → statusAt (accepted h r (cs ++ New v ∷ ds) row) cs ≡ pos 14
+        → SameBut cs (New v ∷ []) (Settle ∷ []) ds (accepted h r (cs ++ New v ∷ ds) row) (accepted h r (cs ++ Settle ∷ ds) row′) × (valueAt (accepted h r (cs ++ Settle ∷ ds) row′) cs ≡ pos 0)
+    settles ds e =
+        let w = status-now ds 14 e in
+        let a = ap (λ (o : Stepped). o .heap) (as-settle s (Z .within .limits) v now (moment-inv Z S cs F) w) in (
+          same-but h r cs ds (New v ∷ []) (Settle ∷ []) row row′ (ap (calls s ds) (then-call (New v) ∙ a ∙ sym (then-call Settle))),
+          value-there h r cs ds Settle row′ ∙ settle-value s (Z .within .limits) v now (moment-inv Z S cs F) w,
+        )
+
+    lets-go : (ds : List Call) → statusAt (accepted h r (cs ++ New v ∷ ds) row) cs ≡ pos 0
+        → SameBut cs [] (Do (Clear v) ∷ []) (New v ∷ ds) (accepted h r (cs ++ New v ∷ ds) row) (accepted h r (cs ++ Do (Clear v) ∷ New v ∷ ds) row′)
+    unfolding calls
+    lets-go ds e =
+        let c = after-clear s (Z .within .limits) v now (moment-inv Z S cs F) (status-now ds 0 e) in
+        same-but h r cs (New v ∷ ds) [] (Do (Clear v) ∷ []) row row′ (goes-on s (New v) ds _ _ (ap (step s (New v)) then-none ∙ sym c ∙ ap (step s (New v)) (sym (then-call (Do (Clear v))))))
+
+  -- the settle before a call
+  settles-before : (row row′ : List ℤ) (ds : List Call) (x : Call) → statusAt (accepted h r (cs ++ x ∷ ds) row) cs ≡ pos 0 → NotSettle x → wants s x now ≡ true → counted x now ≡ now .shape .variables
+      → SameBut cs [] (Settle ∷ []) (x ∷ ds) (accepted h r (cs ++ x ∷ ds) row) (accepted h r (cs ++ Settle ∷ x ∷ ds) row′)
+  settles-before row row′ ds x e n w own =
+      let c = as-settled-before s (Z .within .limits) x now (moment-inv Z S cs F) n w own (pos-same _ _ (sym (status-there h r cs ds x row) ∙ e)) in
+      same-but h r cs (x ∷ ds) [] (Settle ∷ []) row row′ (goes-on s x ds _ _ (ap (step s x) then-none ∙ c ∙ ap (step s x) (sym (then-settle))))
+    where
+      then-settle : moment h r (cs ++ Settle ∷ []) ≡ settled s now
+      then-settle = then-call Settle ∙ ap (λ (o : Stepped). o .heap) (settle-step s now)
+
+-- ---- the call settle
+
+module _ {h : Head} {r : Lent} (Z : Sized h r) (S : Sound h r) (cs : List Call) (F : AllFit (h .sizes .m) cs) where
+  abbrev end : Heap
+  end = settled (h .sizes) (moment h r cs)
+
+  lives-there : (row : List ℤ) → livesIn (accepted h r cs row .rows) ≡ lives (end .shape .fields)
+  unfolding rowsOf
+  lives-there row = rw (rows-there Z S cs F row) (ap lives (fields-back (end .shape .fields)))
+
+  value-is : (ds : List Call) (row row′ : List ℤ) → valueAt (accepted h r (cs ++ Settle ∷ ds) row) cs ≡ pos (lives (moment h r cs .shape .fields) - livesIn (accepted h r cs row′ .rows))
+  value-is ds row row′ =
+      let m = moment h r cs in
+      let e = facts.settled-sum (h .sizes) (Z .within .limits) m (moment-inv Z S cs F) in
+      let z : end .freed - m .freed ≡ lives (m .shape .fields) - lives (end .shape .fields) = omega arith in
+      rw (lives-there row′) (value-there h r cs ds Settle row ∙ ap (λ (o : Stepped). o .answer .value) (settle-step (h .sizes) m) ∙ ap pos z)
+
+  settle-there : step (h .sizes) Settle (moment h r cs) .heap ≡ end
+  settle-there = ap (λ (o : Stepped). o .heap) (settle-step (h .sizes) (moment h r cs))
+
+  -- the batch with calls after it, and the batch of these calls on the rows left: they end alike, but for the cells that were freed before
+  module _ (ds : List Call) where
+    abbrev on : Result
+    on = calls (h .sizes) ds (unfreed end)
+
+    first-heap : batch (h .sizes) (cs ++ Settle ∷ ds) (heapOf h r) .heap ≡ record { shape = on .heap .shape; first = on .heap .first; tables = on .heap .tables; log = on .heap .log; freed = on .heap .freed + end .freed }
+    unfolding calls
+    first-heap = heap-there h r cs (Settle ∷ ds) ∙ ap (λ (x : Heap). calls (h .sizes) ds x .heap) settle-there ∙ ap (λ (o : Result). o .heap) (calls-on (h .sizes) ds end)
+
+    second-heap : batch (h .sizes) ds (heapOf (headOf (h .sizes) end) (rowsOf (h .sizes) end)) ≡ on
+    unfolding batch
+    second-heap = batch-of-ended ds (ended-there Z S cs F)
+
+    ends-there : (row row′ row″ : List ℤ) → EndsThere cs ds (accepted h r (cs ++ Settle ∷ ds) row) (accepted h r cs row′) (accepted (headOf (h .sizes) end) (rowsOf (h .sizes) end) ds row″)
+    unfolding accepted headOf rowsOf answered
+    ends-there row row′ row″ =
+        let k = unfreed (heapOf h r) in
+        record {
+          same-head = rw (first-heap, second-heap);
+          same-rows = rw (first-heap, second-heap);
+          counts = rw (first-heap, second-heap, end-there h r cs) (omega arith);
+          before = said-before h r cs ds (Settle ∷ []) row ∙ sym (said-own h r cs row′);
+          after =
+              said-after h r cs ds (Settle ∷ []) row
+              ∙ ap (λ (x : Heap). said ds (answerWords (calls (h .sizes) ds x .answers) ++ [])) (then-call Z S cs F Settle ∙ settle-there)
+              ∙ ap (λ (o : Result). said ds (answerWords (o .answers) ++ [])) (calls-on (h .sizes) ds end)
+              ∙ sym (said-on row″);
+        }
+      where
+        said-on : (row″ : List ℤ) → said ds (answered (batch (h .sizes) ds (heapOf (headOf (h .sizes) end) (rowsOf (h .sizes) end)) .answers) row″) ≡ said ds (answerWords (on .answers) ++ [])
+        said-on row″ = unfold answered in rw second-heap (said-alone (h .sizes) ds (unfreed end) (drop (2 * length (on .answers)) row″))
+
+-- ---- a cell handed out
+
+-- v holds a cell with both fields nothing: after a settle it does in the rows
+blank-rows : (s : Sizes) → Limits s → (h : Heap) → Inv s h → (v a : ℕ) → var (h .shape) v ≡ some a → field (h .shape .fields) a 0 ≡ Nothing → field (h .shape .fields) a 1 ≡ Nothing
+    → HoldsBlank (rowsOf s (settled s h)) v
+unfolding rowsOf field place var
+blank-rows s ok h I v a e f0 f1 =
+    let fs = settled s h .shape .fields in
+    let still : (f : ℕ) → f < 2 → field (h .shape .fields) a f ≡ Nothing → field fs a f ≡ Nothing = λ f l e0. held-fields s ok h I a f (holds-var (h .shape .variables) v a e) l ∙ e0 in
+    let n0 = still 0 (omega arith) f0 in
+    let n1 = still 1 (omega arith) f1 in
+    record {
+      cell = a;
+      held = row-variable s ok (settled s h) (settled-inv s ok h I) v 0 (omega arith) ∙ ap variableOf (var-settled s ok h I v ∙ e);
+      kinds = (kind-at fs (2 * a + 0) ∙ ap kindOf n0, kind-at fs (2 * a + 1) ∙ ap kindOf n1);
+      values = (word-at fs (2 * a + 0) ∙ ap valueOf n0, word-at fs (2 * a + 1) ∙ ap valueOf n1);
+    }
+
+module _ {h : Head} {r : Lent} (Z : Sized h r) (S : Sound h r) (cs : List Call) (v : ℕ) (F : AllFit (h .sizes .m) (cs ++ New v ∷ [])) (row : List ℤ) where
+  blank-there : statusAt (accepted h r (cs ++ New v ∷ []) row) cs ≡ pos 0 → HoldsBlank (accepted h r (cs ++ New v ∷ []) row .rows) v
+  blank-there e =
       let s = h .sizes in
-      let k = unfreed (heapOf h r) in
-      let es = New v ∷ ds in
-      let c = after-clear s (Z .within .limits) v now now-inv (pos-same _ _ (sym (status-now ds) ∙ e)) in
-      let same : calls s (cs ++ es) k .heap ≡ calls s (cs ++ Do (Clear v) ∷ es) k .heap =
-      calls-after s cs es k ∙ ap (λ (o : Stepped). calls s ds (o .heap) .heap) (sym c) ∙ sym (calls-after s cs (Do (Clear v) ∷ es) k) in
-      let rest = drop (2 * length (calls s (cs ++ es) k .answers)) row in
-      let rest′ = drop (2 * length (calls s (cs ++ Do (Clear v) ∷ es) k .answers)) row′ in
-      record {
-        outcomes = same-left s same .0;
-        same-rows = same-left s same .1;
-        same-said =
-            ap (said es) (words-from s cs es k rest)
-            ∙ said-alone s es now rest rest′
-            ∙ ap (λ (o : Stepped). said es (pos (o .answer .status) ∷ o .answer .value ∷ (answerWords (calls s ds (o .heap) .answers) ++ rest′))) (sym c)
-            ∙ ap (said es) (ap (drop 2) (sym (words-from s cs (Do (Clear v) ∷ es) k rest′)) ∙ drop-drop 2 (2 * length cs) _);
-      }
+      let ok = Z .within .limits in
+      let p = fit-parts (s .m) cs (New v ∷ []) F in
+      let m = moment h r cs in
+      let I = moment-inv Z S cs (p .0) in
+      let H = facts.handed-out-again s ok v (p .1 .0) m I (pos-same _ _ (sym (status-there h r cs [] (New v) row) ∙ e)) in
+      let t = then-call Z S cs (p .0) (New v) in
+      rw (rows-there Z S (cs ++ New v ∷ []) F row, t)
+      (blank-rows s ok (step s (New v) m .heap) (step-inv s ok (New v) m I (p .1 .0)) v (settledFor s (New v) m .first) (H .held) (H .field-0) (H .field-1))
+
+-- a batch on what another left
+on-left : (h : Head) (r : Lent) (c d : Batch) (e : Heap) → handIn ours h r c .outcome .head ≡ headOf (h .sizes) e → handIn ours h r c .rows ≡ rowsOf (h .sizes) e
+    → handIn ours (handIn ours h r c .outcome .head) (handIn ours h r c .rows) d ≡ handIn ours (headOf (h .sizes) e) (rowsOf (h .sizes) e) d
+on-left h r c d e x y = ap₂ (λ (k : Head) (q : Lent). handIn ours k q d) x y
+
+head-there : (h : Head) (r : Lent) (cs : List Call) (row : List ℤ) → accepted h r cs row .outcome .head ≡ headOf (h .sizes) (settled (h .sizes) (moment h r cs))
+unfolding accepted
+head-there h r cs row = ap (headOf (h .sizes)) (end-there h r cs)
+
+ends-as : {cs ds : List Call} {o p q x y z : Batched} → o ≡ x → p ≡ y → q ≡ z → EndsThere cs ds x y z → EndsThere cs ds o p q
+ends-as {cs} {ds} {o} {p} {q} {x} {y} {z} e d f E =
+    subst (λ (w : Batched). EndsThere cs ds w p q) (sym e) (subst (λ (w : Batched). EndsThere cs ds x w q) (sym d) (subst (λ (w : Batched). EndsThere cs ds x y w) (sym f) E))
 
 -- ---- the demand
 
--- an accepted batch's calls are fit
-taken-fit : {h : Head} {r : Lent} {ws row : List ℤ} {o : Batched} (t : Accepts h r ws row o) → AllFit (h .sizes .m) (t .callable .calls)
-taken-fit {h} {ws = ws} t = calls-in-fit (h .sizes .m) ws (t .callable .calls) (t .callable .decoded)
+module _ (h : Head) (r : Lent) (b : Batch) where
+  pub batch-settles : BatchSettles h r b (handIn ours h r b)
+  batch-settles =
+      record {
+        by-the-rules = λ cs d a. took h r b cs d a .left;
+        batch-sound = λ a.
+            let t = took-some h r b a .had in
+            rw (t .left) (exit-sized (t .sized) (t .sound) _ (t .fit) (b .answers), exit-sound (t .sized) (t .sound) _ (t .fit) (b .answers));
+        exact-below-cap = λ a. let t = took-some h r b a .had in rw (t .left) (exit-sound (t .sized) (t .sound) _ (t .fit) (b .answers) .agree);
+        frees-all = λ a. let t = took-some h r b a .had in rw (t .left) (all-held (t .sized) (t .sound) _ (t .fit) (b .answers));
+        frees-exactly = λ cs d a. let t = took h r b cs d a in rw (t .left) (frees-there (t .sized) (t .sound) cs (t .fit) (b .answers));
+        cap-stays = λ a x C. let t = took-some h r b a .had in rw (t .left) (capped-there (t .sized) (t .sound) _ (t .fit) (b .answers) x C);
+        ring-stays = λ cs P d a R. let t = took h r b cs d a in rw (t .left) (ring-there (t .sized) (t .sound) cs (t .fit) P (b .answers) R);
+        count-is-freed = λ cs d a. let t = took h r b cs d a in rw (t .left) (count-freed (t .sized) (t .sound) cs (t .fit) (b .answers));
+        count-is-sum = λ cs d a. let t = took h r b cs d a in rw (t .left) (sum-there (t .sized) (t .sound) cs (t .fit) (b .answers));
+        handed-out-again = λ v d a f. let t = took h r b (New v ∷ []) d a in rw (t .left) (handed (t .sized) (t .sound) v (t .fit) (b .answers) f);
+        handed-out-blank = λ cs v d a o. let t = took h r b (cs ++ New v ∷ []) d a in rw (t .left) (blank-there (t .sized) (t .sound) cs v (t .fit) (b .answers) (rw (t .left) at o));
+      }
+
+  module _ (c : Batch) where
+    pub batches-settle : BatchesSettle h r b c (handIn ours h r b) (handIn ours h r c)
+    batches-settle =
+        record {
+          settle-value = λ cs ds d e a a′.
+              let t = took h r b (cs ++ Settle ∷ ds) d a in
+              let u = took h r c cs e a′ in
+              rw (t .left, u .left) (value-is (u .sized) (u .sound) cs (u .fit) ds (b .answers) (c .answers));
+          settled-before = λ cs ds x d e a a′ o n w own.
+              let t = took h r b (cs ++ x ∷ ds) d a in
+              let u = took h r c (cs ++ Settle ∷ x ∷ ds) e a′ in
+              same-as (t .left) (u .left) (settles-before (t .sized) (t .sound) cs (fit-parts (h .sizes .m) cs (x ∷ ds) (t .fit) .0) (b .answers) (c .answers) ds x (rw (t .left) at o) n w own);
+          new-lets-go = λ cs ds v d e a a′ o.
+              let t = took h r b (cs ++ New v ∷ ds) d a in
+              let u = took h r c (cs ++ Do (Clear v) ∷ New v ∷ ds) e a′ in
+              same-as (t .left) (u .left) (lets-go (t .sized) (t .sound) cs (fit-parts (h .sizes .m) cs (New v ∷ ds) (t .fit) .0) v (b .answers) (c .answers) ds (rw (t .left) at o));
+          fourteen-exactly = λ cs ds v d e a a′.
+              let t = took h r b (cs ++ New v ∷ ds) d a in
+              let u = took h r c (cs ++ Do (Clear v) ∷ []) e a′ in
+              rw (t .left, u .left) (fourteen (t .sized) (t .sound) cs (fit-parts (h .sizes .m) cs (New v ∷ ds) (t .fit) .0) v (b .answers) (c .answers) ds);
+          fourteen-keeps = λ cs v d e a a′ o.
+              let t = took h r b (cs ++ New v ∷ []) d a in
+              let u = took h r c cs e a′ in
+              same-as (t .left) (u .left ∙ ap (λ (es : List Call). accepted h r es (c .answers)) (sym (append-nil cs)))
+              (keeps (t .sized) (t .sound) cs (u .fit) v (b .answers) (c .answers) (rw (t .left) at o));
+          fourteen-settles = λ cs ds v d e a a′ o.
+              let t = took h r b (cs ++ New v ∷ ds) d a in
+              let u = took h r c (cs ++ Settle ∷ ds) e a′ in
+              let S = settles (t .sized) (t .sound) cs (fit-parts (h .sizes .m) cs (New v ∷ ds) (t .fit) .0) v (b .answers) (c .answers) ds (rw (t .left) at o) in
+              (same-as (t .left) (u .left) (S .0), rw (u .left) (S .1));
+        }
+
+    module _ (d : Batch) where
+      pub settle-ends : SettleEnds h b c d (handIn ours h r b) (handIn ours h r c) (handIn ours (handIn ours h r c .outcome .head) (handIn ours h r c .rows) d)
+      unfolding headOf
+      settle-ends cs ds x y z a a′ a″ =
+          let t = took h r b (cs ++ Settle ∷ ds) x a in
+          let u = took h r c cs y a′ in
+          let e = settled (h .sizes) (moment h r cs) in
+          let on = on-left h r c d e (ap (λ (o : Batched). o .outcome .head) (u .left) ∙ head-there h r cs (c .answers)) (ap (λ (o : Batched). o .rows) (u .left) ∙ rows-there (u .sized) (u .sound) cs (u .fit) (c .answers)) in
+          let w = took (headOf (h .sizes) e) (rowsOf (h .sizes) e) d ds z (ap (λ (o : Batched). o .outcome .status) (sym on) ∙ a″) in
+          ends-as (t .left) (u .left) (on ∙ w .left) (ends-there (u .sized) (u .sound) cs (u .fit) ds (b .answers) (c .answers) (d .answers))
 
 pub demand-2 : Demand2 ours
 demand-2 =
     record {
-      by-the-rules = λ h r ws row cs e s.
-          let t = taken h r ws row s in
-          t .left ∙ ap (λ (ds : List Call). accepted h r ds row) (same-calls h r ws row (t .callable .calls) cs (t .callable .decoded) e);
-      batch-sound = λ h r ws row s.
-          let t = taken h r ws row s in
-          rw (t .left) (exit-sized (t .sized) (t .sound) (t .callable .calls) (taken-fit t) row, exit-sound (t .sized) (t .sound) (t .callable .calls) (taken-fit t) row);
-      exact-below-cap = λ h r ws row s.
-          let t = taken h r ws row s in
-          let u = exit-sound (t .sized) (t .sound) (t .callable .calls) (taken-fit t) row in
-          rw (t .left) (u .agree);
-      frees-all = λ h r ws row s.
-          let t = taken h r ws row s in
-          rw (t .left) (all-held (t .sized) (t .sound) (t .callable .calls) (taken-fit t) row);
-      count-is-freed = λ h r ws row cs e s.
-          let t = taken h r ws row s in
-          let q = same-calls h r ws row (t .callable .calls) cs (t .callable .decoded) e in
-          rw (t .left, ← q) (count-freed (t .sized) (t .sound) (t .callable .calls) (taken-fit t) row);
-      handed-out-again = λ h r v row Z S k room f. handed Z S v k row room f;
-      new-lets-go = λ h r us ws row row′ cs ds v d e b a o.
-          let t = taken h r ws row a in
-          let u = taken h r us row′ b in
-          let q = same-calls h r ws row (t .callable .calls) (cs ++ New v ∷ ds) (t .callable .decoded) e in
-          let p = same-calls h r us row′ (u .callable .calls) (cs ++ Do (Clear v) ∷ New v ∷ ds) (u .callable .decoded) d in
-          let F = fit-parts (h .sizes .m) cs (New v ∷ ds) (calls-in-fit (h .sizes .m) ws (cs ++ New v ∷ ds) e) .0 in
-          rw (t .left, q, u .left, p) (lets-go (t .sized) (t .sound) cs F v row row′ ds (rw (t .left, q) at o));
-      fourteen-exactly = λ h r us ws row cs ds v d e a.
-          let B = both h r us ws row (cs ++ Do (Clear v) ∷ []) (cs ++ New v ∷ ds) d e (let l = length-append cs (New v ∷ ds) in let m = length-append cs (Do (Clear v) ∷ []) in omega arith) a in
-          rw (B .left, B .left′) (fourteen (B .sized) (B .sound) cs (fit-parts (h .sizes .m) cs (New v ∷ ds) (B .fit) .0) v row ds);
-      fourteen-keeps = λ h r us ws row cs v d e a o.
-          let B = both h r us ws row cs (cs ++ New v ∷ []) d e (let l = length-append cs (New v ∷ []) in omega arith) a in
-          rw (B .left, B .left′) (keeps (B .sized) (B .sound) cs (fit-parts (h .sizes .m) cs (New v ∷ []) (B .fit) .0) v row (rw (B .left) at o));
-      fourteen-settles = λ h r us ws row cs ds v d e a o.
-          let B = both h r us ws row (cs ++ Settle ∷ ds) (cs ++ New v ∷ ds) d e (let l = length-append cs (New v ∷ ds) in let m = length-append cs (Settle ∷ ds) in omega arith) a in
-          rw (B .left, B .left′) (settles (B .sized) (B .sound) cs (fit-parts (h .sizes .m) cs (New v ∷ ds) (B .fit) .0) v row ds (rw (B .left) at o));
+      batch-settles = batch-settles;
+      batches-settle = batches-settle;
+      settle-ends = settle-ends;
       audit-exactly = λ h r Z. (audit-yes h r Z, λ S. ap (λ o. o .outcome .status) (audit-0 h r Z S));
     }
   where

@@ -23,29 +23,19 @@ use Rattle.rules.specs.Rules.{replay}
 use Rattle.rules.specs.Heap.{Shape, Heap, place, field}
 use Rattle.rules.specs.Settle.{holds, pick, reclaim, replayed, settledBy, settled}
 use Rattle.rules.specs.Call.{Answer, answer, InRange, Fits, AllFit, unless, var, at, isHeld, isCell, noFigure, want, refuses, check, hold}
-use Rattle.rules.specs.Demands.{reasons, Listed, isNew}
+use Rattle.rules.specs.Demands.{reasons, Listed}
 use Rattle.rules.specs.Step.{Stepped, refused, settledIf, full, noneFree, takeCell, doNew, run, step, calls, batch, wants, counted, settledFor, doDeed, acted, unfreed}
 use Rattle.rules.specs.Head.{Limits}
-use Rattle.rules.specs.Invariant.{refs, live, Inv, count}
+use Rattle.rules.specs.Run.{isNew}
+use Rattle.rules.specs.Moment.{turns, Taking, SettlesRight}
+use Rattle.rules.specs.Invariant.{live, Inv, lives}
 use Rattle.rules.proofs.Tables.{eqb-self}
 use Rattle.rules.proofs.Sorted.{replay-kept}
-use Rattle.rules.proofs.Cells.{lives, lives-taken, live-store-0, field-same, field-across}
-use Rattle.rules.proofs.Reclaim.{pick-least, pick-some, pick-none, having, reclaim-kept, taken-when}
+use Rattle.rules.proofs.Cells.{lives-taken, live-store-0, field-same, field-across}
+use Rattle.rules.proofs.Turn.{turn-none}
+use Rattle.rules.proofs.Reclaim.{pick-least, pick-some, pick-none, having, reclaim-good, reclaim-kept, reclaim-dead, taken-when, taken-freed}
 use Rattle.rules.proofs.Calls.{act-lives}
 use Rattle.rules.proofs.Step.{settledBy-good, settledBy-done, settledBy-sum, none-free-settled, counting, counted-good, counted-full, readied, readied-inv, readied-right, for-readied, Ran, run-as, taken, step-inv, counted-from-0}
-
--- ---- the turns of a settle
-
--- the heap after k turns of h's reclaiming, the holds hs counted
-unfoldable pub turns : Sizes → List (Option ℕ) → Heap → ℕ → Heap
-turns s hs h k = reclaim (s .cap) hs k (replayed (s .cap) h)
-
--- the cell a is the one that turn k takes: in ZCT, named by none of the holds, and the smallest such
-pub record Taking (s : Sizes) (hs : List (Option ℕ)) (h : Heap) (k a : ℕ) : Type 0 where
-  pub picked : pick hs (turns s hs h k .tables .zct) ≡ some a
-  pub in-zct : has a (turns s hs h k .tables .zct) ≡ true
-  pub unheld : holds a hs ≡ false
-  pub smallest : (b : ℕ) → has b (turns s hs h k .tables .zct) ≡ true → holds b hs ≡ false → a ≤ b
 
 -- ---- cells made
 
@@ -137,6 +127,19 @@ module _ (s : Sizes) where
       go zero d e = let r = run-refused c h k e in (r .0, inr (r .1))
       go (suc j) d e = (refl, inl (d ∙ e, refl))
 
+-- 14 is a reason for new alone
+pub new-alone : (c : Call) → has 14 (reasons c) ≡ true → isNew c ≡ true
+new-alone (New v) e = refl
+new-alone (Do (Copy v w)) e = absurd (false≢true e)
+new-alone (Do (Clear v)) e = absurd (false≢true e)
+new-alone (Do (Link v f w)) e = absurd (false≢true e)
+new-alone (Do (Put v f x)) e = absurd (false≢true e)
+new-alone (Do (Blank v f)) e = absurd (false≢true e)
+new-alone (Do (Follow v f w)) e = absurd (false≢true e)
+new-alone (Do (Read v f)) e = absurd (false≢true e)
+new-alone (Do (Same v w)) e = absurd (false≢true e)
+new-alone Settle e = absurd (false≢true e)
+
 -- a call is answered 0, or with one of its reasons and the value nought
 pub step-listed : (s : Sizes) (c : Call) (h : Heap) → Listed c (pos (step s c h .answer .status)) (step s c h .answer .value)
 unfolding step run acted doNew doDeed
@@ -155,42 +158,47 @@ step-listed s c h = go (check c (h .shape)) refl
     go zero d = ran c
     go (suc k) d = ((rw d at (check-reason c (h .shape))) .0, refl)
 
-taken-freed : (v : ℕ) (h : Heap) → takeCell v h .freed ≡ h .freed
+take-freed : (v : ℕ) (h : Heap) → takeCell v h .freed ≡ h .freed
 unfolding takeCell
-taken-freed v h = refl
+take-freed v h = refl
 
 -- ---- over a heap with the invariant
 
 module _ (s : Sizes) (ok : Limits s) where
-  -- what is said of the settle before a call is said of every settle: the one that the call `settle` makes counts what the variables hold,
-  -- as the one at a batch's end does, and the one made for a new counts no hold of v
-
-  -- afterwards each ZCT cell is held by one of the variables that are counted: all that could be freed was
-  pub frees-all : (c : Call) (h : Heap) → Inv s h → (a : ℕ) → has a (settledBy s (counted c h) h .tables .zct) ≡ true → holds a (counted c h) ≡ true
-  frees-all c h g a i = pick-none (counted c h) (settledBy s (counted c h) h .tables .zct) (settledBy-done s ok (counted c h) h (counted-good s ok c h g)) a i
-
   -- what a turn takes
-  pub takes : (c : Call) (h : Heap) → Inv s h → (k a : ℕ) → pick (counted c h) (turns s (counted c h) h k .tables .zct) ≡ some a → Taking s (counted c h) h k a
+  takes : (c : Call) (h : Heap) → Inv s h → (k a : ℕ) → pick (counted c h) (turns s (counted c h) h k .tables .zct) ≡ some a → Taking s (counted c h) h k a
   unfolding turns replayed
   takes c h g k a e =
       let hs = counted c h in
-      let z = turns s hs h k .tables .zct in
-      let p = pick-some hs z a e in
-      let m = reclaim-kept (s .n) (s .cap) (ok .cap-least) hs k (replayed (s .cap) h) (counted-good s ok c h g) (replay-kept (s .n) (s .cap) (ok .cap-least) (h .log) (h .tables) (g .kept) (g .log-small)) in
-      record { picked = e; in-zct = p .0; unheld = p .1; smallest = λ b. pick-least hs z a b (m .zct-up) e }
+      let t = turns s hs h k in
+      let p = pick-some hs (t .tables .zct) a e in
+      let good = counted-good s ok c h g in
+      let m = reclaim-kept (s .n) (s .cap) (ok .cap-least) hs k (replayed (s .cap) h) good (replay-kept (s .n) (s .cap) (ok .cap-least) (h .log) (h .tables) (g .kept) (g .log-small)) in
+      record {
+        picked = e;
+        in-zct = p .0;
+        unheld = p .1;
+        smallest = λ b. pick-least hs (t .tables .zct) a b (m .zct-up) e;
+        no-pointer = turn-none (s .n) (s .cap) (ok .cap-least) hs t (reclaim-good (s .n) (s .cap) (ok .cap-least) hs k (replayed (s .cap) h) good) a (p .0) (p .1);
+      }
 
-  -- a cell that a settle frees was taken at one of its turns
-  pub frees-only : (c : Call) (h : Heap) → Inv s h → (a : ℕ) → live (h .shape .fields) a ≡ true → live (settledBy s (counted c h) h .shape .fields) a ≡ false
-      → (k : ℕ) × ((k < s .n) × Taking s (counted c h) h k a)
+  -- the settle before a call, and so every settle: the one that the call `settle` makes counts what the variables hold, as the one at a batch's end
+  -- does, and the one made for a new counts no hold of v
+  pub settles-right : (c : Call) (h : Heap) → Inv s h → SettlesRight s (counted c h) h
   unfolding settledBy turns replayed
-  frees-only c h g a l d =
-      let r = taken-when (s .n) (s .cap) (ok .cap-least) (counted c h) (replayed (s .cap) h) (counted-good s ok c h g) a l (s .n) d in
-      (r .0, (r .1 .0, takes c h g (r .0) a (r .1 .1)))
-
-  -- a count below the cap is the number of pointers
-  pub exact-below-cap : (c : Call) (h : Heap) → Inv s h → (b : ℕ) → live (settledBy s (counted c h) h .shape .fields) b ≡ true
-      → (count (settledBy s (counted c h) h .tables) b ≡ s .cap) ⊎ (count (settledBy s (counted c h) h .tables) b ≡ refs (settledBy s (counted c h) h .shape .fields) b)
-  exact-below-cap c h g b l = settledBy-good s ok (counted c h) h (counted-good s ok c h g) .counted b .exact l
+  settles-right c h g =
+      let hs = counted c h in
+      let good = counted-good s ok c h g in
+      let at = replayed (s .cap) h in
+      record {
+        frees-only = λ a l. (
+          λ d. let r = taken-when (s .n) (s .cap) (ok .cap-least) hs at good a l (s .n) d in record { turn = r .0; within = r .1 .0; taking = takes c h g (r .0) a (r .1 .1) },
+          λ t. taken-freed (s .n) (s .cap) (ok .cap-least) hs at good a (t .turn) (s .n) (t .within) (t .taking .picked),
+        );
+        stays-free = λ a d. reclaim-dead (s .n) (s .cap) (ok .cap-least) hs at good a d (s .n);
+        frees-all = pick-none hs (settledBy s hs h .tables .zct) (settledBy-done s ok hs h good);
+        exact-below-cap = λ b. settledBy-good s ok hs h good .counted b .exact;
+      }
 
   -- ---- cells in use and cells freed
 
@@ -220,7 +228,7 @@ module _ (s : Sizes) (ok : Limits s) where
   doNew-sum v h g = go (noneFree s h) refl
     where
       same-freed : takeCell v h .freed ≡ h .freed
-      same-freed = taken-freed v h
+      same-freed = take-freed v h
 
       go : (q : Bool) → noneFree s h ≡ q → Sum (doNew q v h .heap) ≡ Sum h + made (New v) (doNew q v h .answer)
       go true d = omega arith

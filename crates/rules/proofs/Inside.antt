@@ -4,11 +4,11 @@ use mathlib.Core.Path.{_≡_, refl, sym, ap, _∙_}
 use mathlib.Core.Logic.{_↔_}
 use mathlib.Core.Bool.{Bool, true, false, cond, true≢false}
 use mathlib.Core.Option.{Option, none, some}
-use mathlib.Core.List.{List, [], _∷_, _++_}
+use mathlib.Core.List.{List, [], _∷_, _++_, append-nil}
 use native.Mathlib.Omega.{arith}
 use lib.Dec.{eqb}
 use lib.IntN.{ℤ, pos, negsuc}
-use lib.ListN.{length, getD, set, drop, List·getD-map}
+use lib.ListN.{length, getD, drop, List·getD-map}
 use lib.Seq.{getD-drop}
 use borrow.Author.Tests.{eqb-true}
 use Rattle.rules.specs.declared.Field.{Field}
@@ -30,6 +30,7 @@ use Rattle.rules.specs.Run.{Said, said}
 use Rattle.rules.specs.Sound.{kind}
 use Rattle.rules.specs.Demands.{AllListed, Finds, ReadSays}
 use Rattle.rules.specs.Invariant.{live, Inv}
+use Rattle.rules.specs.Moment.{heapAfter}
 use Rattle.rules.proofs.Cells.{free-dead}
 use Rattle.rules.proofs.Positions.{kind-at}
 use Rattle.rules.proofs.Turn.{turn-field}
@@ -39,11 +40,6 @@ use Rattle.rules.proofs.Step.{settledBy-variables, settled-inv, step-in
 use Rattle.rules.proofs.Facts.{step-listed}
 
 -- ---- the calls before
-
--- the heap after these calls, before the settle at the end
-unfoldable pub heapAfter : Sizes → List Call → Heap → Heap
-heapAfter s [] h = h
-heapAfter s (c ∷ cs) h = heapAfter s cs (step s c h .heap)
 
 module _ (s : Sizes) where
   pub calls-end : (cs : List Call) (h : Heap) → calls s cs h .heap ≡ settled s (heapAfter s cs h)
@@ -56,6 +52,11 @@ module _ (s : Sizes) where
   unfolding calls heapAfter
   calls-after [] ds h = refl
   calls-after (c ∷ cs) ds h = calls-after cs ds (step s c h .heap)
+
+  pub after-both : (cs ds : List Call) (h : Heap) → heapAfter s (cs ++ ds) h ≡ heapAfter s ds (heapAfter s cs h)
+  unfolding heapAfter
+  after-both [] ds h = refl
+  after-both (c ∷ cs) ds h = after-both cs ds (step s c h .heap)
 
   -- the words of the answers row from there on
   pub words-from : (cs ds : List Call) (h : Heap) (rest : List ℤ)
@@ -83,22 +84,21 @@ module _ (s : Sizes) where
     unfolding calls row
     value-at = word-at 1
 
-  -- what follows the answers is not said
-  pub said-alone : (cs : List Call) (h : Heap) (rest rest′ : List ℤ) → said cs (answerWords (calls s cs h .answers) ++ rest) ≡ said cs (answerWords (calls s cs h .answers) ++ rest′)
+  -- what is said to the calls at the front
+  pub said-first : (cs ds : List Call) (h : Heap) (rest : List ℤ) → said cs (answerWords (calls s (cs ++ ds) h .answers) ++ rest) ≡ said cs (answerWords (calls s cs h .answers) ++ [])
   unfolding calls
-  said-alone [] h rest rest′ = refl
-  said-alone (c ∷ cs) h rest rest′ =
-      ap (λ (l : List Said). record { call = c; status = pos (step s c h .answer .status); value = step s c h .answer .value } ∷ l) (said-alone cs (step s c h .heap) rest rest′)
+  said-first [] ds h rest = refl
+  said-first (c ∷ cs) ds h rest =
+      ap (λ (l : List Said). record { call = c; status = pos (step s c h .answer .status); value = step s c h .answer .value } ∷ l) (said-first cs ds (step s c h .heap) rest)
 
-  -- two calls that differ in their status alone
-  pub words-but : (cs ds : List Call) (c d : Call) (h : Heap) (k : ℕ) (rest : List ℤ) → step s d (heapAfter s cs h) .answer .value ≡ pos 0
-      → step s c (heapAfter s cs h) ≡ refused (step s d (heapAfter s cs h) .heap) k
-      → answerWords (calls s (cs ++ c ∷ ds) h .answers) ++ rest ≡ set (answerWords (calls s (cs ++ d ∷ ds) h .answers) ++ rest) (2 * length cs) (pos k)
-  unfolding calls heapAfter
-  words-but [] ds c d h k rest x e = rw (e, x)
-  words-but (b ∷ cs) ds c d h k rest x e =
-      let two : 2 * suc (length cs) ≡ suc (suc (2 * length cs)) = omega arith in
-      rw (two, words-but cs ds c d (step s b h .heap) k rest x e)
+  -- what follows the answers is not said
+  pub said-alone : (cs : List Call) (h : Heap) (rest : List ℤ) → said cs (answerWords (calls s cs h .answers) ++ rest) ≡ said cs (answerWords (calls s cs h .answers) ++ [])
+  said-alone cs h rest = rw (append-nil cs) at (said-first cs [] h rest)
+
+  -- what is said to the calls after them
+  pub said-from : (cs ds : List Call) (h : Heap) (rest : List ℤ)
+      → said ds (drop (2 * length cs) (answerWords (calls s (cs ++ ds) h .answers) ++ rest)) ≡ said ds (answerWords (calls s ds (heapAfter s cs h) .answers) ++ [])
+  said-from cs ds h rest = ap (said ds) (words-from cs ds h rest) ∙ said-alone ds (heapAfter s cs h) rest
 
   -- each call is answered 0, or with one of its reasons
   pub all-listed : (cs : List Call) (h : Heap) (rest : List ℤ) → AllListed (said cs (answerWords (calls s cs h .answers) ++ rest))
@@ -114,7 +114,7 @@ module _ (s : Sizes) where
 -- ---- a settle leaves the fields of a cell that a variable holds
 
 module _ (s : Sizes) (ok : Limits s) (h : Heap) (g : Inv s h) where
-  held-fields : (b f : ℕ) → holds b (h .shape .variables) ≡ true → f < 2 → field (settled s h .shape .fields) b f ≡ field (h .shape .fields) b f
+  pub held-fields : (b f : ℕ) → holds b (h .shape .variables) ≡ true → f < 2 → field (settled s h .shape .fields) b f ≡ field (h .shape .fields) b f
   unfolding settled settledBy replayed
   held-fields b f i k =
       let hs = h .shape .variables in
@@ -126,7 +126,7 @@ module _ (s : Sizes) (ok : Limits s) (h : Heap) (g : Inv s h) where
       apart a u true e = absurd (true≢false (sym i ∙ ap (λ (x : ℕ). holds x (h .shape .variables)) (eqb-true b a e) ∙ u))
       apart a u false e = e
 
-  var-settled : (v : ℕ) → var (settled s h .shape) v ≡ var (h .shape) v
+  pub var-settled : (v : ℕ) → var (settled s h .shape) v ≡ var (h .shape) v
   unfolding var settled
   var-settled v = rw (settledBy-variables s (h .shape .variables) h)
 
@@ -170,7 +170,7 @@ not-neg : (j k : ℕ) → pos j ≡ negsuc k → ⊥
 not-neg j k e = let z : _≡_ {A = ℕ} 0 1 = cc in omega arith
 
 module _ (s : Sizes) (ok : Limits s) (h : Heap) (g : Inv s h) (v f : ℕ) (small : f < 2) where
-  row-variable : getD (rowsOf s h .variables) v (negsuc 0) ≡ variableOf (var (h .shape) v)
+  pub row-variable : getD (rowsOf s h .variables) v (negsuc 0) ≡ variableOf (var (h .shape) v)
   unfolding rowsOf var
   row-variable = List·getD-map variableOf (h .shape .variables) v none
 

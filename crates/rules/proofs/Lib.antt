@@ -21,9 +21,12 @@ pub mod Bridge
 pub mod Roundtrip
 pub mod Unique
 pub mod Whole
+pub mod Entry
+pub mod Beside
 pub mod Demand1
 pub mod Runs
-pub mod Entry
+pub mod Settles
+pub mod Stays
 pub mod Demand2
 pub mod Erase
 pub mod Alike
@@ -33,5 +36,4 @@ pub mod EndlessCall
 pub mod EndlessRun
 pub mod AsEndless
 pub mod Demands
-pub mod Worthless
 pub mod Parts

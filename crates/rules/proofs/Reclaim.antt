@@ -11,9 +11,10 @@ use Rattle.rules.specs.Table.{has, Ascending}
 use Rattle.rules.specs.Heap.{Heap, place}
 use Rattle.rules.specs.Settle.{holds, pick, onPick, freeCell, reclaim}
 use Rattle.rules.specs.Whole.{Kept}
-use Rattle.rules.specs.Invariant.{live, Good, Done}
+use Rattle.rules.specs.Invariant.{live, Good, Done, lives}
+use Rattle.rules.proofs.Tables.{eqb-self}
 use Rattle.rules.proofs.Sorted.{all-has}
-use Rattle.rules.proofs.Cells.{Plain1, Figures, lives, place-in-1}
+use Rattle.rules.proofs.Cells.{Plain1, Figures, place-in-1}
 use Rattle.rules.proofs.Turn.{turn-was, turn-live, turn-less, turn-good, turn-kept, turn-plain, turn-figures}
 
 -- ---- what `pick` finds
@@ -213,3 +214,26 @@ module _ (n cap : ℕ) (cap3 : 3 ≤ cap) (hs : List (Option ℕ)) where
           → (j : ℕ) × ((j < suc k) × (pick hs (reclaim cap hs j h .tables .zct) ≡ some a))
       go false e ih = let r = ih e in (r .0, (let x = r .1 .0 in omega arith, r .1 .1))
       go true e ih = (k, (omega arith, turn (pick hs (R .tables .zct)) refl e (ap (λ x. live (x .shape .fields) a) (sym (reclaim-last cap hs k h)) ∙ d)))
+
+  -- a cell that is free stays free
+  pub reclaim-dead : (h : Heap) → G h → (a : ℕ) → live (h .shape .fields) a ≡ false → (k : ℕ) → live (reclaim cap hs k h .shape .fields) a ≡ false
+  reclaim-dead h g a d k = reclaim-keeps (λ x. live (x .shape .fields) a ≡ false) (λ x e b i u p. turn-live n cap cap3 hs x e b i u a ∙ rw p (go (eqb a b))) k h g d
+    where
+      go : (q : Bool) → cond q false false ≡ false
+      go true = refl
+      go false = refl
+
+  -- and a cell that a turn takes is free afterwards
+  pub taken-freed : (h : Heap) → G h → (a j k : ℕ) → j < k → pick hs (reclaim cap hs j h .tables .zct) ≡ some a → live (reclaim cap hs k h .shape .fields) a ≡ false
+  unfolding reclaim
+  taken-freed h g a j zero l e = absurd (omega arith)
+  taken-freed h g a zero (suc k) l e =
+      let m = pick-some hs (h .tables .zct) a e in
+      rw e (reclaim-dead (freeCell cap a h) (turn-good n cap cap3 hs h g a (m .0) (m .1)) a (turn-live n cap cap3 hs h g a (m .0) (m .1) a ∙ rw (eqb-self a)) k)
+  taken-freed h g a (suc j) (suc k) l e = go (pick hs (h .tables .zct)) refl e (λ x y. taken-freed x y a j k)
+    where
+      go : (o : Option ℕ) → pick hs (h .tables .zct) ≡ o → pick hs (onPick o h (λ b. reclaim cap hs j (freeCell cap b h)) .tables .zct) ≡ some a
+          → ((h : Heap) → G h → j < k → pick hs (reclaim cap hs j h .tables .zct) ≡ some a → live (reclaim cap hs k h .shape .fields) a ≡ false)
+          → live (onPick o h (λ b. reclaim cap hs k (freeCell cap b h)) .shape .fields) a ≡ false
+      go none d e ih = absurd (let p = sym d ∙ e in let w : _≡_ {A = ℕ} 0 1 = cc in omega arith)
+      go (some b) d e ih = let m = pick-some hs (h .tables .zct) b d in ih (freeCell cap b h) (turn-good n cap cap3 hs h g b (m .0) (m .1)) (omega arith) e

@@ -17,7 +17,7 @@ use Rattle.rules.specs.declared.Deed.the-variants.{Copy, Clear, Link, Pu
 use Rattle.rules.specs.declared.Call.{Call}
 use Rattle.rules.specs.declared.Call.the-variants.{New, Do, Settle}
 use Rattle.rules.specs.declared.Sizes.{Sizes}
-use Rattle.rules.specs.Heap.{Tables, allocates, Shape, Heap, place, store}
+use Rattle.rules.specs.Heap.{Tables, allocates, Shape, Heap, place, store, Transaction}
 use Rattle.rules.specs.Rules.{apply, replay}
 use Rattle.rules.specs.Settle.{holds, freeCell, replayed, settledBy, settled}
 use Rattle.rules.specs.Call.{var, check, logs, hold, Fits, AllFit, InRange, unless, refuses}
@@ -25,11 +25,11 @@ use Rattle.rules.specs.Step.{done, refused, settledIf, full, noneFree, t
 use Rattle.rules.specs.Whole.{Kept}
 use Rattle.rules.proofs.Tests.{not-first}
 use Rattle.rules.specs.Head.{Limits}
-use Rattle.rules.specs.Invariant.{refs, live, view, Counted, Good, Frees, Small, Inv, Done, Ended}
+use Rattle.rules.specs.Invariant.{refs, live, view, Counted, Good, Frees, Small, Inv, Done, Ended, lives}
 use Rattle.rules.proofs.Tables.{view-own, view-other, change}
 use Rattle.rules.proofs.Sorted.{replay-kept, small-append, replay-append}
-use Rattle.rules.proofs.Cells.{live-store-0, refs-store, length-store, lives, lives-le, Plain1, Figures, plain-store, plain-store-0, figures-store}
-use Rattle.rules.proofs.Reclaim.{having, reclaim-having, reclaim-full, reclaim-good, reclaim-done, reclaim-leaves, reclaim-sum, reclaim-plain, reclaim-figures, reclaim-kept}
+use Rattle.rules.proofs.Cells.{live-store-0, refs-store, length-store, lives-le, Plain1, Figures, plain-store, plain-store-0, figures-store}
+use Rattle.rules.proofs.Reclaim.{having, reclaim-having, reclaim-full, reclaim-good, reclaim-done, reclaim-leaves, reclaim-sum, reclaim-plain, reclaim-figures, reclaim-kept, reclaim-idle}
 use Rattle.rules.proofs.FreeList.{Taken, frees-store, frees-take, reclaim-frees}
 use Rattle.rules.proofs.Calls.{holds-set, hold-good, deed-good, act-keeps, act-variables, logs-small, logs-long, store-live}
 
@@ -105,6 +105,21 @@ module _ (s : Sizes) (ok : Limits s) (hs : List (Option ℕ)) (h : Heap)
   settledBy-full : noneFree s (settledBy s hs h) ≡ true → settledBy s hs h ≡ replayed (s .cap) h
   unfolding noneFree settledBy replayed
   settledBy-full e = reclaim-full (s .n) (s .cap) (ok .cap-least) hs (s .n) (replayed (s .cap) h) g (eqb-true _ _ e)
+
+-- with nothing logged a replay changes nothing
+replayed-idle : (cap : ℕ) (h : Heap) → h .log ≡ [] → replayed cap h ≡ h
+unfolding replayed replay
+replayed-idle cap h e = go (h .log) e
+  where
+    go : (l : List Transaction) → l ≡ []
+        → _≡_ {A = Heap} (record { shape = h .shape; first = h .first; tables = replay cap l (h .tables); log = []; freed = h .freed }) (record { shape = h .shape; first = h .first; tables = h .tables; log = l; freed = h .freed })
+    go [] e = refl
+    go (x ∷ l) e = absurd (let z = ap length e in omega arith)
+
+-- and with nothing to take a settle does nothing
+pub settled-idle : (s : Sizes) (h : Heap) → Done (h .shape .variables) h → h .log ≡ [] → settled s h ≡ h
+unfolding settled settledBy
+settled-idle s h d e = rw (replayed-idle (s .cap) h e) (reclaim-idle (s .cap) (h .shape .variables) (s .n) h d)
 
 -- ---- v let go
 

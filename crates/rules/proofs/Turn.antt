@@ -17,11 +17,11 @@ use Rattle.rules.specs.Rules.{leaveZct}
 use Rattle.rules.specs.Call.{drops}
 use Rattle.rules.specs.Settle.{holds, freeCell}
 use Rattle.rules.specs.Whole.{Kept}
-use Rattle.rules.specs.Invariant.{count, hit, refs, live, view, okOf, Counted, Good, Small}
+use Rattle.rules.specs.Invariant.{count, hit, refs, live, view, okOf, Counted, Good, Small, lives}
 use Rattle.rules.proofs.Tables.{remove-own, remove-other}
 use Rattle.rules.proofs.Sorted.{leaveZct-kept, replay-kept, small-append, replay-append}
 use Rattle.rules.proofs.Exact.{drop-counted}
-use Rattle.rules.proofs.Cells.{live-in, place-in-1, live-store-0, live-store-1, refs-store, length-store, field-other, field-same, field-across, drops-small, Plain1, Figures, plain-store-0, plain-store, figures-store, lives, lives-freed}
+use Rattle.rules.proofs.Cells.{live-in, place-in-1, live-store-0, live-store-1, refs-store, length-store, field-other, field-same, field-across, drops-small, Plain1, Figures, plain-store-0, plain-store, figures-store, lives-freed}
 
 module _ (n cap : ℕ) (cap3 : 3 ≤ cap) (hs : List (Option ℕ)) (h : Heap) (g : Good n cap (h .shape .fields) hs (h .tables))
     (a : ℕ) (inz : has a (h .tables .zct) ≡ true) (unheld : holds a hs ≡ false) where

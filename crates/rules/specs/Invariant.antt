@@ -42,6 +42,12 @@ used (Free a) = false
 unfoldable pub live : List Field → ℕ → Bool
 live fs a = used (getD fs (place a 0) (Free 0))
 
+-- how many cells are in use
+abbrev pub lives : List Field → ℕ
+lives [] = 0
+lives (f ∷ []) = 0
+lives (f ∷ g ∷ fs) = cond (used f) 1 0 + lives fs
+
 -- ---- what both tables show at one address
 
 abbrev pub View : Type 0

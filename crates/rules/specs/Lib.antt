@@ -12,13 +12,13 @@ pub mod Step
 pub mod Whole
 pub mod Lending
 pub mod Invariant
+pub mod Moment
 pub mod Sound
 pub mod Decide
 pub mod Refusals
 pub mod Endless
 pub mod Run
 pub mod Demands
-pub mod Worthless
 pub mod Cases
 pub mod Worked
 pub mod Against

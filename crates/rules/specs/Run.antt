@@ -2,7 +2,7 @@
 use Prim.Native.Nat.{ℕ}
 use mathlib.Core.Path.{_≡_}
 use mathlib.Core.Logic.{_⊎_}
-use mathlib.Core.Bool.{Bool, false, cond}
+use mathlib.Core.Bool.{Bool, true, false, cond, _&&_}
 use mathlib.Core.Option.{Option, none, some}
 use mathlib.Core.List.{List, [], _∷_, _++_}
 use lib.Dec.{eqb}
@@ -37,14 +37,33 @@ pub record Batch : Type 0 where
   pub calls : List ℤ
   pub answers : List ℤ
 
+-- what it leaves
+abbrev pub handIn : Heaps → Head → Lent → Batch → Batched
+handIn H h r b = H .batch h r (b .calls) (b .answers)
+
 -- rows touched by nothing else, each head handed on
 unfoldable pub runFrom : Heaps → Head → Lent → List Batch → List Batched
 runFrom H h r [] = []
-runFrom H h r (b ∷ bs) = let o = H .batch h r (b .calls) (b .answers) in o ∷ runFrom H (o .outcome .head) (o .rows) bs
+runFrom H h r (b ∷ bs) = let o = handIn H h r b in o ∷ runFrom H (o .outcome .head) (o .rows) bs
 
 -- from a fresh heap
 unfoldable pub runOf : Heaps → Sizes → Lent → List Batch → List Batched
 runOf H s r bs = let f = H .fresh s r in runFrom H (f .outcome .head) (f .rows) bs
+
+-- ---- the same of outcomes, each of which has the contract of its entry point
+
+-- one after the other, each a batch on what the one before left
+abbrev pub Came : Head → Lent → List Batch → List Batched → Type 0
+Came h r [] [] = Unit {0}
+Came h r [] (o ∷ os) = ⊥
+Came h r (b ∷ bs) [] = ⊥
+Came h r (b ∷ bs) (o ∷ os) = (o ≡ batchOf h r (b .calls) (b .answers)) × Came (o .outcome .head) (o .rows) bs os
+
+-- f is what a fresh call left that was accepted, and os came after it
+pub record Trace (s : Sizes) (r : Lent) (f : After) (bs : List Batch) (os : List Batched) : Type 0 where
+  pub made : f ≡ freshOf s r
+  pub taken : f .outcome .status ≡ 0
+  pub came : Came (f .outcome .head) (f .rows) bs os
 
 -- ---- equal but for the figures
 
@@ -114,6 +133,11 @@ AlikeRuns (b ∷ bs) (o ∷ os) (p ∷ ps) = AlikeBatched (b .calls) o p × Alik
 
 -- ---- as on an endless heap
 
+abbrev pub isNew : Call → Bool
+isNew (New v) = true
+isNew (Do d) = false
+isNew Settle = false
+
 -- a call and the two words of its answer; where the answers row has none, -1, which is no status
 pub record Said : Type 0 where
   pub call : Call
@@ -132,10 +156,14 @@ abbrev pub isFourteen : ℤ → Bool
 isFourteen (pos k) = eqb k 14
 isFourteen (negsuc k) = false
 
--- calls answered 14 left out
+-- a new answered 14 (no other call has that answer)
+abbrev pub newFourteen : Said → Bool
+newFourteen a = isNew (a .call) && isFourteen (a .status)
+
+-- those left out
 abbrev pub but14 : List Said → List Said
 but14 [] = []
-but14 (a ∷ as′) = cond (isFourteen (a .status)) (but14 as′) (a ∷ but14 as′)
+but14 (a ∷ as′) = cond (newFourteen a) (but14 as′) (a ∷ but14 as′)
 
 -- what was said in a run, refused batches left out
 unfoldable pub saidIn : ℕ → List Batch → List Batched → List Said
