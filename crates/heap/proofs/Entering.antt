@@ -19,9 +19,8 @@ use Rattle.rules.specs.Rows.{Lent, lengthsOf, rowsOf, heapOf}
 use Rattle.rules.specs.Whole.{startOf}
 use Rattle.rules.specs.Sound.{Sound, Sized, Lengths}
 use Rattle.rules.specs.Refusals.{outcome, leaves, leavesWith, cleared, accepted, freshOf, batchOf}
-use Rattle.rules.specs.Demands.{Callable}
-use Rattle.rules.proofs.Demands.{demand-1, demand-2}
-use Rattle.rules.proofs.Demand1.{fresh-refused, fresh-accepted}
+use Rattle.rules.specs.Demands.{BatchRefuses}
+use Rattle.rules.proofs.Demand1.{demand-1, fresh-refused, fresh-accepted, accepted-as}
 use Rattle.rules.proofs.Entry.{entry-ended}
 use Rattle.rules.proofs.Whole.{whole-at}
 use Rattle.words.specs.Words.{Calls, Decides}
@@ -31,17 +30,20 @@ use Rattle.working.specs.Working.{Standing, Runnable, Runs}
 -- ---- refusals
 
 module _ {h : Head} {r : Lent} (ws row : List ℤ) where
+  facts : BatchRefuses h r (record { calls = ws; answers = row }) (batchOf h r ws row)
+  facts = demand-1 .batch-refuses h r (record { calls = ws; answers = row })
+
   pub left-1 : (Sized h r → ⊥) → leavesWith (outcome 1 h 0) r row ≡ batchOf h r ws row
-  left-1 p = let d = demand-1 .refused-1 h r ws row in sym (d .left (d .when p))
+  left-1 p = let d = facts .refused-1 in sym (d .left (d .when p))
 
   pub left-2 : Sized h r → callsIn (h .sizes .m) ws ≡ none → leavesWith (outcome 2 h 0) r row ≡ batchOf h r ws row
-  left-2 z e = let d = demand-1 .refused-2 h r ws row in sym (d .left (d .when (z, e)))
+  left-2 z e = let d = facts .refused-2 in sym (d .left (d .when (z, e)))
 
   pub left-3 : Sized h r → (ds : List Call) → callsIn (h .sizes .m) ws ≡ some ds → length row < 2 * length ds → leavesWith (outcome 3 h 0) r row ≡ batchOf h r ws row
-  left-3 z ds e l = let d = demand-1 .refused-3 h r ws row in sym (d .left (d .when (z, record { calls = ds; decoded = e; short = l })))
+  left-3 z ds e l = let d = facts .refused-3 in sym (d .left (d .when (z, record { calls = ds; decoded = e; short = l })))
 
   pub left-4 : Sized h r → (ds : List Call) → callsIn (h .sizes .m) ws ≡ some ds → 2 * length ds ≤ length row → (Sound h r → ⊥) → leavesWith (outcome 4 h 0) (cleared h r) row ≡ batchOf h r ws row
-  left-4 z ds e l u = let d = demand-1 .refused-4 h r ws row in sym (d .left (d .when (z, record { calls = ds; decoded = e; room = l }, u)))
+  left-4 z ds e l u = let d = facts .refused-4 in sym (d .left (d .when (z, record { calls = ds; decoded = e; room = l }, u)))
 
 -- the answers row has room, or has none, by half the words
 pub room-of : (m : ℕ) (ws row : List ℤ) (ds : List Call) → callsIn m ws ≡ some ds → length ws / 2 ≤ length row → 2 * length ds ≤ length row
@@ -100,8 +102,7 @@ module _ {h : Head} {r : Lent} (ws row : List ℤ) (Z : Sized h r) {right : Bool
         unfolding accepted batch heapOf
         accepted-by runs =
             let D = runs (all .list) (heapOf h r) (all .are) started in
-            let c : Callable h ws row = record { calls = all .list; decoded = all .are; room = room } in
-            let b = demand-2 .by-the-rules h r ws row (all .list) (all .are) (demand-1 .accepted-else h r ws row Z c is-sound) in
+            let b = accepted-as h r (record { calls = ws; answers = row }) (all .list) Z (all .are) room is-sound in
             rw (b, D .rows, D .is, D .answers)
 
 -- ---- fresh
