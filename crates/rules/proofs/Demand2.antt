@@ -34,7 +34,7 @@ use Rattle.rules.proofs.Tests.{sound-true, sound-false}
 use Rattle.rules.proofs.Cells.{live-below}
 use Rattle.rules.proofs.Calls.{holds-var, fit-parts}
 use Rattle.rules.proofs.Step.{settled-inv, settled-done, settle-sound, step-inv, counted-from-0}
-use Rattle.rules.proofs.Positions.{live-at, dead-at, kind-at, word-at}
+use Rattle.rules.proofs.Positions.{live-at, dead-at, free-at, kind-at, word-at}
 use Rattle.rules.proofs.Roundtrip.{fields-back, rows-of-heap, batch-of-ended}
 use Rattle.rules.proofs.Whole.{twice}
 use Rattle.rules.proofs.Entry.{entry-ended, exit-ended, exit-sized, exit-sound}
@@ -184,6 +184,7 @@ module _ {h : Head} {r : Lent} (Z : Sized h r) (S : Sound h r) (cs : List Call) 
           λ e. R .frees-only a l .0 (marked-dead (s .n) fs len a e),
           λ t. dead-at (s .n) fs len a (live-below (s .n) (moment h r cs .shape .fields) (moment-inv Z S cs F .good .len) a l) (R .frees-only a l .1 t),
         );
+        in-order = λ k a l t. free-at (s .n) fs len a _ (R .freed-first k a l t) .follows;
         free = λ a k d. dead-at (s .n) fs len a k (R .stays-free a d);
       })
 

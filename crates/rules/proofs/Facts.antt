@@ -31,9 +31,9 @@ use Rattle.rules.specs.Moment.{turns, Taking, SettlesRight}
 use Rattle.rules.specs.Invariant.{live, Inv, lives}
 use Rattle.rules.proofs.Tables.{eqb-self}
 use Rattle.rules.proofs.Sorted.{replay-kept}
-use Rattle.rules.proofs.Cells.{lives-taken, live-store-0, field-same, field-across}
+use Rattle.rules.proofs.Cells.{free-dead, lives-taken, live-store-0, field-same, field-across}
 use Rattle.rules.proofs.Turn.{turn-none}
-use Rattle.rules.proofs.Reclaim.{pick-least, pick-some, pick-none, having, reclaim-good, reclaim-kept, reclaim-dead, taken-when, taken-freed}
+use Rattle.rules.proofs.Reclaim.{pick-least, pick-some, pick-none, having, reclaim-good, reclaim-kept, reclaim-dead, taken-when, taken-marked}
 use Rattle.rules.proofs.Calls.{act-lives}
 use Rattle.rules.proofs.Step.{settledBy-good, settledBy-done, settledBy-sum, none-free-settled, counting, counted-good, counted-full, readied, readied-inv, readied-right, for-readied, Ran, run-as, taken, step-inv, counted-from-0}
 
@@ -193,8 +193,9 @@ module _ (s : Sizes) (ok : Limits s) where
       record {
         frees-only = λ a l. (
           λ d. let r = taken-when (s .n) (s .cap) (ok .cap-least) hs at good a l (s .n) d in record { turn = r .0; within = r .1 .0; taking = takes c h g (r .0) a (r .1 .1) },
-          λ t. taken-freed (s .n) (s .cap) (ok .cap-least) hs at good a (t .turn) (s .n) (t .within) (t .taking .picked),
+          λ t. free-dead (settledBy s hs h .shape .fields) a _ (taken-marked (s .n) (s .cap) (ok .cap-least) hs at good a (t .turn) (s .n) (t .within) (t .taking .picked)),
         );
+        freed-first = λ k a l t. taken-marked (s .n) (s .cap) (ok .cap-least) hs at good a k (s .n) l (t .picked);
         stays-free = λ a d. reclaim-dead (s .n) (s .cap) (ok .cap-least) hs at good a d (s .n);
         frees-all = pick-none hs (settledBy s hs h .tables .zct) (settledBy-done s ok hs h good);
         exact-below-cap = λ b. settledBy-good s ok hs h good .counted b .exact;

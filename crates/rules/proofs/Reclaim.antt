@@ -8,14 +8,14 @@ use native.Mathlib.Omega.{arith}
 use lib.Dec.{eqb}
 use borrow.Author.Tests.{eqb-true, eq-eqb}
 use Rattle.rules.specs.Table.{has, Ascending}
-use Rattle.rules.specs.Heap.{Heap, place}
+use Rattle.rules.specs.declared.Field.the-variants.{Free}
+use Rattle.rules.specs.Heap.{Heap, place, field}
 use Rattle.rules.specs.Settle.{holds, pick, onPick, freeCell, reclaim}
 use Rattle.rules.specs.Whole.{Kept}
 use Rattle.rules.specs.Invariant.{live, Good, Done, lives}
-use Rattle.rules.proofs.Tables.{eqb-self}
 use Rattle.rules.proofs.Sorted.{all-has}
-use Rattle.rules.proofs.Cells.{Plain1, Figures, place-in-1}
-use Rattle.rules.proofs.Turn.{turn-was, turn-live, turn-less, turn-good, turn-kept, turn-plain, turn-figures}
+use Rattle.rules.proofs.Cells.{free-dead, Plain1, Figures, place-in-1}
+use Rattle.rules.proofs.Turn.{turn-was, turn-mark, turn-live, turn-field, turn-less, turn-good, turn-kept, turn-plain, turn-figures}
 
 -- ---- what `pick` finds
 
@@ -223,17 +223,29 @@ module _ (n cap : ℕ) (cap3 : 3 ≤ cap) (hs : List (Option ℕ)) where
       go true = refl
       go false = refl
 
-  -- and a cell that a turn takes is free afterwards
-  pub taken-freed : (h : Heap) → G h → (a j k : ℕ) → j < k → pick hs (reclaim cap hs j h .tables .zct) ≡ some a → live (reclaim cap hs k h .shape .fields) a ≡ false
-  unfolding reclaim
-  taken-freed h g a j zero l e = absurd (omega arith)
-  taken-freed h g a zero (suc k) l e =
-      let m = pick-some hs (h .tables .zct) a e in
-      rw e (reclaim-dead (freeCell cap a h) (turn-good n cap cap3 hs h g a (m .0) (m .1)) a (turn-live n cap cap3 hs h g a (m .0) (m .1) a ∙ rw (eqb-self a)) k)
-  taken-freed h g a (suc j) (suc k) l e = go (pick hs (h .tables .zct)) refl e (λ x y. taken-freed x y a j k)
+  -- with the address that follows it
+  reclaim-mark : (h : Heap) → G h → (a b : ℕ) → field (h .shape .fields) a 0 ≡ Free b → (k : ℕ) → field (reclaim cap hs k h .shape .fields) a 0 ≡ Free b
+  reclaim-mark h g a b e k =
+      reclaim-keeps (λ x. field (x .shape .fields) a 0 ≡ Free b) (λ x y c i u p. turn-field n cap cap3 hs x y c i u a 0 (other x y c i u p (eqb a c) refl) (omega arith) ∙ p) k h g e
     where
-      go : (o : Option ℕ) → pick hs (h .tables .zct) ≡ o → pick hs (onPick o h (λ b. reclaim cap hs j (freeCell cap b h)) .tables .zct) ≡ some a
-          → ((h : Heap) → G h → j < k → pick hs (reclaim cap hs j h .tables .zct) ≡ some a → live (reclaim cap hs k h .shape .fields) a ≡ false)
-          → live (onPick o h (λ b. reclaim cap hs k (freeCell cap b h)) .shape .fields) a ≡ false
+      other : (x : Heap) → G x → (c : ℕ) → has c (x .tables .zct) ≡ true → holds c hs ≡ false → field (x .shape .fields) a 0 ≡ Free b → (q : Bool) → eqb a c ≡ q → eqb a c ≡ false
+      other x y c i u p true d = absurd (true≢false (sym (turn-was n cap cap3 hs x y c i u) ∙ ap (live (x .shape .fields)) (sym (eqb-true a c d)) ∙ free-dead (x .shape .fields) a b p))
+      other x y c i u p false d = d
+
+  -- and a cell that a turn takes is free afterwards, followed by the cell that was the first free one
+  pub taken-marked : (h : Heap) → G h → (a j k : ℕ) → j < k → pick hs (reclaim cap hs j h .tables .zct) ≡ some a → field (reclaim cap hs k h .shape .fields) a 0 ≡ Free (reclaim cap hs j h .first)
+  unfolding reclaim
+  taken-marked h g a j zero l e = absurd (omega arith)
+  taken-marked h g a zero (suc k) l e =
+      let m = pick-some hs (h .tables .zct) a e in
+      rw e (reclaim-mark (freeCell cap a h) (turn-good n cap cap3 hs h g a (m .0) (m .1)) a (h .first) (turn-mark n cap cap3 hs h g a (m .0) (m .1)) k)
+  taken-marked h g a (suc j) (suc k) l e = go (pick hs (h .tables .zct)) refl e (λ x y. taken-marked x y a j k)
+    where
+      turn : ℕ → Option ℕ → Heap
+      turn k o = onPick o h (λ b. reclaim cap hs k (freeCell cap b h))
+
+      go : (o : Option ℕ) → pick hs (h .tables .zct) ≡ o → pick hs (turn j o .tables .zct) ≡ some a
+          → ((h : Heap) → G h → j < k → pick hs (reclaim cap hs j h .tables .zct) ≡ some a → field (reclaim cap hs k h .shape .fields) a 0 ≡ Free (reclaim cap hs j h .first))
+          → field (turn k o .shape .fields) a 0 ≡ Free (turn j o .first)
       go none d e ih = absurd (let p = sym d ∙ e in let w : _≡_ {A = ℕ} 0 1 = cc in omega arith)
       go (some b) d e ih = let m = pick-some hs (h .tables .zct) b d in ih (freeCell cap b h) (turn-good n cap cap3 hs h g b (m .0) (m .1)) (omega arith) e

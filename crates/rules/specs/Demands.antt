@@ -19,8 +19,8 @@ use Rattle.rules.specs.Call.{callsIn, isNought}
 use Rattle.rules.specs.Step.{wants, counted, unfreed, fresh}
 use Rattle.rules.specs.Rows.{TableRows, Lent, rowsOf, heapOf}
 use Rattle.rules.specs.Invariant.{live, lives}
-use Rattle.rules.specs.Moment.{moment, Taken, livesIn, freedIn, PointsToItself}
-use Rattle.rules.specs.Sound.{Sound, Sized, mark, kind, word, Live, Agree, pointersTo, heldAmong, times}
+use Rattle.rules.specs.Moment.{moment, turns, Taking, Taken, livesIn, freedIn, PointsToItself}
+use Rattle.rules.specs.Sound.{Sound, Sized, mark, kind, word, next, Live, Agree, pointersTo, heldAmong, times}
 use Rattle.rules.specs.Refusals.{After, Batched, outcome, leaves, leavesWith, cleared, accepted}
 use Rattle.rules.specs.Endless.{endless}
 use Rattle.rules.specs.Run.{Heaps, Batch, handIn, runOf, AlikeBatches, AlikeRows, AlikeRuns, isNew, Said, said, saidIn, but14, NotSettle, AsEndless}
@@ -157,9 +157,11 @@ pub record Demand1 (H : Heaps) : Type 0 where
 abbrev pub ExactBelowCap : Head → Lent → Type 0
 ExactBelowCap h r = Agree h (r .kinds) (r .tables) (pointersTo (h .sizes .n) (r .kinds) (r .values))
 
--- after a settle of the heap h at a batch's end, which counts what the variables hold: a cell in use is free exactly if one of its turns took it, and free cells are free
+-- after a settle of the heap h at a batch's end, which counts what the variables hold: a cell in use is free exactly if one of its turns took it, and is then followed
+-- by the cell that was the first free one before that turn; free cells are free
 pub record FreesExactly (s : Sizes) (h : Heap) (r : Lent) : Type 0 where
   pub freed : (a : ℕ) → live (h .shape .fields) a ≡ true → (mark (r .kinds) a ≡ 3) ↔ Taken s (h .shape .variables) h a
+  pub in-order : (k a : ℕ) → k < s .n → Taking s (h .shape .variables) h k a → next (s .n) (r .values) a ≡ turns s (h .shape .variables) h k .first
   pub free : (a : ℕ) → a < s .n → live (h .shape .fields) a ≡ false → mark (r .kinds) a ≡ 3
 
 -- a has an MRT entry at the cap

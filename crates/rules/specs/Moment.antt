@@ -6,7 +6,7 @@ use mathlib.Core.Bool.{Bool, true, false, cond}
 use mathlib.Core.Option.{Option, some}
 use mathlib.Core.List.{List, [], _∷_}
 use Rattle.rules.specs.declared.Field.{Field}
-use Rattle.rules.specs.declared.Field.the-variants.{Cell}
+use Rattle.rules.specs.declared.Field.the-variants.{Cell, Free}
 use Rattle.rules.specs.declared.Head.{Head}
 use Rattle.rules.specs.declared.Sizes.{Sizes}
 use Rattle.rules.specs.declared.Call.{Call}
@@ -47,10 +47,11 @@ pub record Taken (s : Sizes) (hs : List (Option ℕ)) (h : Heap) (a : ℕ) : Typ
   pub within : turn < s .n
   pub taking : Taking s hs h turn a
 
--- a settle of h that counts the holds hs: it frees a cell in use exactly if one of its turns takes it, and free cells stay free; afterwards one of the holds
--- names each ZCT cell, and a cell not at the cap has its exact number of pointers
+-- a settle of h that counts the holds hs: it frees a cell in use exactly if one of its turns takes it, and that cell is the first free one then; free cells stay
+-- free; afterwards one of the holds names each ZCT cell, and a cell not at the cap has its exact number of pointers
 pub record SettlesRight (s : Sizes) (hs : List (Option ℕ)) (h : Heap) : Type 0 where
   pub frees-only : (a : ℕ) → live (h .shape .fields) a ≡ true → (live (settledBy s hs h .shape .fields) a ≡ false) ↔ Taken s hs h a
+  pub freed-first : (k a : ℕ) → k < s .n → Taking s hs h k a → field (settledBy s hs h .shape .fields) a 0 ≡ Free (turns s hs h k .first)
   pub stays-free : (a : ℕ) → live (h .shape .fields) a ≡ false → live (settledBy s hs h .shape .fields) a ≡ false
   pub frees-all : (a : ℕ) → has a (settledBy s hs h .tables .zct) ≡ true → holds a hs ≡ true
   pub exact-below-cap : (a : ℕ) → live (settledBy s hs h .shape .fields) a ≡ true
