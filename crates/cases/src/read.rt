@@ -6,35 +6,35 @@ use rules::Sizes;
 
 // What goes from line to line: the head, how much of the calls and of the answers is used, and the eight rows with
 // their lengths. A row has room for a heap of one cell too many.
-pub struct Setup {
-    pub head: Head,
-    pub calls: usize,
-    pub answers: usize,
-    pub lengths: [usize; 8],
-    pub kinds: [u8; 2050],
-    pub values: [i32; 2050],
-    pub variables: [i32; 2050],
-    pub zct: [u32; 2050],
-    pub mrt: [u32; 2050],
-    pub counts: [u32; 2050],
-    pub log: [u32; 2050],
-    pub work: [u32; 2050],
+pub(crate) struct Setup {
+    pub(crate) head: Head,
+    pub(crate) calls: usize,
+    pub(crate) answers: usize,
+    pub(crate) lengths: [usize; 8],
+    pub(crate) kinds: [u8; 2050],
+    pub(crate) values: [i32; 2050],
+    pub(crate) variables: [i32; 2050],
+    pub(crate) zct: [u32; 2050],
+    pub(crate) mrt: [u32; 2050],
+    pub(crate) counts: [u32; 2050],
+    pub(crate) log: [u32; 2050],
+    pub(crate) work: [u32; 2050],
 }
 
 // A number that was read, and the place past it.
-pub struct Numeral {
-    pub next: usize,
-    pub minus: bool,
-    pub size: usize,
+pub(crate) struct Numeral {
+    pub(crate) next: usize,
+    pub(crate) minus: bool,
+    pub(crate) size: usize,
 }
 
 // A name that was read: its place among the names of its kind, and the place past it.
-pub struct Name {
-    pub next: usize,
-    pub which: usize,
+pub(crate) struct Name {
+    pub(crate) next: usize,
+    pub(crate) which: usize,
 }
 
-pub fn start() -> Setup {
+pub(crate) fn start() -> Setup {
     let head = Head::fresh(Sizes::plain(0, 0, 0, 0));
     let lengths = [0usize; 8];
     let kinds = [0u8; 2050];
@@ -57,7 +57,7 @@ pub fn start() -> Setup {
 }
 
 // The place past the next line end, or the text's end.
-pub fn next_line(text: &[u8], from: usize) -> usize
+pub(crate) fn next_line(text: &[u8], from: usize) -> usize
     requires { ⌜ from < length (now text) ⌝ }
     ensures { λ r. ⌜ (from < r) × (r ≤ length (now (text .entry))) ⌝ }
 {
@@ -122,7 +122,7 @@ fn digits(line: &[u8], from: usize, minus: bool) -> Numeral
 }
 
 // The number that stands after one space or `=`.
-pub fn number(line: &[u8], from: usize) -> Numeral
+pub(crate) fn number(line: &[u8], from: usize) -> Numeral
     ensures { λ r. ⌜ from ≤ r .next ⌝ }
 {
     let at = past(line, past(line, from, b' '), b'=');
@@ -228,7 +228,7 @@ fn row_name(name: &[u8]) -> usize {
 }
 
 // The name at a place of the line, among the head's numbers or among the rows.
-pub fn named(line: &[u8], from: usize, of_head: bool) -> Name
+pub(crate) fn named(line: &[u8], from: usize, of_head: bool) -> Name
     ensures { λ r. ⌜ from ≤ r .next ⌝ }
 {
     if line.len() < from {
@@ -270,13 +270,13 @@ fn settings(line: &[u8], of_head: bool, out: &mut [usize]) -> bool {
 }
 
 // The line of a line that says nothing known.
-pub fn unknown(line: &[u8]) {
+pub(crate) fn unknown(line: &[u8]) {
     print::text(b"? ");
     print::text(line);
 }
 
 // The number as a signed word; what has more bits is the least word, -2147483648.
-pub fn word(n: Numeral) -> i32 {
+pub(crate) fn word(n: Numeral) -> i32 {
     let size = n.size;
     if 2147483647 < size {
         return i32::MIN;
@@ -286,12 +286,12 @@ pub fn word(n: Numeral) -> i32 {
 }
 
 // The number as a byte, or as an unsigned word; what has more bits is the greatest.
-pub fn byte(n: Numeral) -> u8 {
+pub(crate) fn byte(n: Numeral) -> u8 {
     let size = n.size;
     if size < 256 { size as u8 } else { 255 }
 }
 
-pub fn unsigned(n: Numeral) -> u32 {
+pub(crate) fn unsigned(n: Numeral) -> u32 {
     let size = n.size;
     if size < 4294967296 {
         size as u32
@@ -315,7 +315,7 @@ fn words(line: &[u8], from: usize, out: &mut [i32]) -> usize {
 }
 
 // h n=N m=M l=L cap=C free=F zct=Z mrt=R: a number not given is 0.
-pub fn head_line(line: &[u8], mut s: Setup) -> Setup {
+pub(crate) fn head_line(line: &[u8], mut s: Setup) -> Setup {
     let mut w = [0usize; 7];
     if !settings(line, true, &mut w) {
         unknown(line);
@@ -332,7 +332,7 @@ pub fn head_line(line: &[u8], mut s: Setup) -> Setup {
 }
 
 // r kinds=K values=V ..: the lengths, 0 where none is given, and rows of zeros.
-pub fn rows_line(line: &[u8], s: Setup) -> Setup {
+pub(crate) fn rows_line(line: &[u8], s: Setup) -> Setup {
     let mut w = [0usize; 8];
     if !settings(line, false, &mut w) {
         unknown(line);
@@ -348,7 +348,7 @@ pub fn rows_line(line: &[u8], s: Setup) -> Setup {
 }
 
 // c WORDS.. or c+ WORDS..
-pub fn calls_line(line: &[u8], mut s: Setup, calls: &mut [i32]) -> Setup {
+pub(crate) fn calls_line(line: &[u8], mut s: Setup, calls: &mut [i32]) -> Setup {
     if is_at(line, 1, b'+') {
         let k = s.calls;
         if k <= calls.len() {
@@ -373,7 +373,7 @@ fn total(a: usize, b: usize) -> usize {
 }
 
 // a LENGTH
-pub fn answers_line(line: &[u8], mut s: Setup, answers: &mut [i32]) -> Setup {
+pub(crate) fn answers_line(line: &[u8], mut s: Setup, answers: &mut [i32]) -> Setup {
     let k = number(line, 1);
     s.answers = k.size;
     fill(answers);

@@ -7,14 +7,14 @@ use rules::Head;
 use rules::Outcome;
 
 // A row's length, at most what the rows hold.
-pub fn clip(k: usize) -> usize
+pub(crate) fn clip(k: usize) -> usize
     ensures { λ r. ⌜ r ≤ 2050 ⌝ }
 {
     if k < 2050 { k } else { 2050 }
 }
 
 // One line, with its end.
-pub fn line(line: &[u8], s: Setup, calls: &mut [i32], answers: &mut [i32]) -> Setup {
+pub(crate) fn line(line: &[u8], s: Setup, calls: &mut [i32], answers: &mut [i32]) -> Setup {
     if line.len() == 0 {
         return s;
     }

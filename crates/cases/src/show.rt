@@ -4,7 +4,7 @@ use crate::rows::clip;
 use rules::Outcome;
 
 // status, count and head
-pub fn outcome(o: Outcome) {
+pub(crate) fn outcome(o: Outcome) {
     let h = o.head;
     let s = h.sizes;
     print::number(b"status ", o.status);
@@ -53,7 +53,7 @@ fn unsigned_row(name: &[u8], row: [u32; 2050], size: usize) {
 }
 
 // The eight rows, a line for each.
-pub fn rows(s: Setup) {
+pub(crate) fn rows(s: Setup) {
     let k = s.lengths;
     let kinds = s.kinds;
     let values = s.values;
@@ -74,7 +74,7 @@ pub fn rows(s: Setup) {
 }
 
 // The answers, as far as they are used.
-pub fn answers(used: usize, row: &[i32]) {
+pub(crate) fn answers(used: usize, row: &[i32]) {
     if used <= row.len() {
         signed_row(b"answers", &row[..used]);
     }
