@@ -3,8 +3,7 @@ use Prim.Native.Nat.{ℕ, suc, _+_, _*_}
 use mathlib.Core.Path.{_≡_, refl, sym, ap, ap₂, _∙_, subst}
 use mathlib.Core.Logic.{_⊎_, inl, inr}
 use mathlib.Core.List.{List, [], _∷_, _++_, append-assoc}
-use native.Mathlib.Omega.{arith}
-use lib.IntN.{ℤ, pos, negsuc}
+use lib.IntN.{ℤ, pos}
 use lib.ListN.{length, drop}
 use Rattle.rules.specs.declared.Head.{Head}
 use Rattle.rules.specs.declared.Call.{Call}
@@ -12,7 +11,7 @@ use Rattle.rules.specs.declared.Sizes.{Sizes}
 use Rattle.rules.specs.Heap.{Heap}
 use Rattle.rules.specs.Settle.{settled}
 use Rattle.rules.specs.Call.{AllFit}
-use Rattle.rules.specs.Step.{Stepped, Result, step, calls, unfreed, batch}
+use Rattle.rules.specs.Step.{Result, step, calls, unfreed, batch}
 use Rattle.rules.specs.Rows.{Lent, rowsOf, headOf, heapOf}
 use Rattle.rules.specs.Sound.{Sound, Sized}
 use Rattle.rules.specs.Refusals.{Batched, outcome, cleared, leavesWith, answerWords, answered, accepted}
@@ -20,7 +19,6 @@ use Rattle.rules.specs.Run.{said}
 use Rattle.rules.specs.Invariant.{Inv, Ended}
 use Rattle.rules.specs.Moment.{heapAfter, moment}
 use Rattle.rules.specs.Demands.{statusAt, valueAt, SameBut}
-use Rattle.rules.proofs.Reclaim.{reclaim-idle}
 use Rattle.rules.proofs.Step.{counted-from-0, settled-idle}
 use Rattle.rules.proofs.Roundtrip.{rows-of-heap, head-of-heap}
 use Rattle.rules.proofs.Facts.{Fourteen, call-refused}

@@ -6,9 +6,9 @@ use mathlib.Core.Option.{Option, none, some}
 use mathlib.Core.List.{List, [], _∷_, _++_}
 use native.Mathlib.Omega.{arith}
 use lib.Dec.{leb}
-use lib.ListN.{length, getD, drop, replicate, length-append, length-drop}
+use lib.ListN.{length, drop, replicate, length-append, length-drop}
 use lib.Seq.{drop-at}
-use lib.IntN.{ℤ, pos, negsuc}
+use lib.IntN.{ℤ}
 use borrow.Author.Tests.{leb-true, leb-false}
 use Rattle.rules.specs.declared.Head.{Head}
 use Rattle.rules.specs.declared.Deed.the-variants.{Read}

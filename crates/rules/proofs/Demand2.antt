@@ -23,8 +23,8 @@ use Rattle.rules.specs.Heap.{Heap, place, field}
 use Rattle.rules.specs.Settle.{settled}
 use Rattle.rules.specs.Call.{Answer, AllFit, var, hold}
 use Rattle.rules.specs.Step.{Stepped, Result, full, noneFree, wants, counted, settledIf, settledFor, takeCell, doNew, acted, run, step, calls, unfreed, batch}
-use Rattle.rules.specs.Rows.{Lent, fieldsOf, rowsOf, headOf, heapOf}
-use Rattle.rules.specs.Sound.{Sound, Sized, mark, kind, word, Live, heldAmong, times}
+use Rattle.rules.specs.Rows.{Lent, rowsOf, headOf, heapOf}
+use Rattle.rules.specs.Sound.{Sound, Sized, mark, Live, heldAmong, times}
 use Rattle.rules.specs.Refusals.{Batched, answerWords, answered, accepted, auditOf, isSound}
 use Rattle.rules.specs.Run.{ours, Batch, handIn, said, NotSettle}
 use Rattle.rules.specs.Invariant.{live, lives, Inv, Ended}
@@ -110,7 +110,6 @@ module _ {h : Head} {r : Lent} (Z : Sized h r) (S : Sound h r) (cs : List Call) 
 
       same-m : (row : List ℤ) → accepted h r cs row .outcome .head .sizes .m ≡ h .sizes .m
       same-m row = unfold accepted headOf in refl
-
 
 -- a cell with the mark is not in use
 marked-dead : (n : ℕ) (fs : List Field) → length fs ≡ 2 * n → (a : ℕ) → mark (map kindOf fs) a ≡ 3 → live fs a ≡ false

@@ -21,7 +21,7 @@ use Rattle.rules.specs.declared.Sizes.{Sizes}
 use Rattle.rules.specs.Table.{has}
 use Rattle.rules.specs.Rules.{replay}
 use Rattle.rules.specs.Heap.{Shape, Heap, place, field}
-use Rattle.rules.specs.Settle.{holds, pick, reclaim, replayed, settledBy, settled}
+use Rattle.rules.specs.Settle.{pick, replayed, settledBy, settled}
 use Rattle.rules.specs.Call.{Answer, answer, InRange, Fits, AllFit, unless, var, at, isHeld, isCell, noFigure, want, refuses, check, hold}
 use Rattle.rules.specs.Demands.{reasons, Listed}
 use Rattle.rules.specs.Step.{Stepped, refused, settledIf, full, noneFree, takeCell, doNew, run, step, calls, batch, wants, counted, settledFor, doDeed, acted, unfreed}

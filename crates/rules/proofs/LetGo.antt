@@ -1,9 +1,9 @@
 -- A new that lets go of v: 14 exactly if no cell is free then, and then as a settle that frees none; else as with v cleared first. Assumes nothing.
 use Prim.Native.Nat.{ℕ, _-_}
 use mathlib.Core.Path.{_≡_, refl, sym, ap, _∙_}
-use mathlib.Core.Logic.{_⊎_, inl, inr, _↔_}
+use mathlib.Core.Logic.{inl, inr, _↔_}
 use mathlib.Core.Bool.{true}
-use mathlib.Core.Option.{none, some}
+use mathlib.Core.Option.{none}
 use mathlib.Core.List.{append-nil}
 use native.Mathlib.Omega.{arith}
 use lib.IntN.{pos}
@@ -15,7 +15,7 @@ use Rattle.rules.specs.declared.Sizes.{Sizes}
 use Rattle.rules.specs.Head.{Limits}
 use Rattle.rules.specs.Heap.{Heap}
 use Rattle.rules.specs.Rules.{replay}
-use Rattle.rules.specs.Settle.{holds, replayed, settledBy, settled}
+use Rattle.rules.specs.Settle.{replayed, settledBy, settled}
 use Rattle.rules.specs.Call.{refuses, logs, act, hold}
 use Rattle.rules.specs.Step.{Stepped, done, refused, full, noneFree, wants, counted, settledIf, settledFor, doDeed, acted, run, step}
 use Rattle.rules.specs.Invariant.{Inv, Done}

@@ -1,11 +1,11 @@
 -- The settles of a batch: the call settle is a batch's end, and the settle before a call is the call settle; how many cells they free. Assumes nothing.
-use Prim.Native.Nat.{ℕ, zero, suc, _+_, _*_, _-_, _≤_}
+use Prim.Native.Nat.{ℕ, zero, suc, _+_, _-_, _≤_}
 use mathlib.Core.Path.{_≡_, refl, sym, ap, _∙_}
-use mathlib.Core.Bool.{Bool, true, false, cond, _||_}
+use mathlib.Core.Bool.{Bool, true, false, cond}
 use mathlib.Core.Option.{Option, none, some}
 use mathlib.Core.List.{List, [], _∷_}
 use native.Mathlib.Omega.{arith}
-use lib.IntN.{ℤ, pos}
+use lib.IntN.{pos}
 use lib.ListN.{length}
 use borrow.Author.Tests.{le-ltb}
 use Rattle.rules.specs.declared.Call.{Call}
@@ -14,10 +14,10 @@ use Rattle.rules.specs.declared.Sizes.{Sizes}
 use Rattle.rules.specs.Head.{Limits}
 use Rattle.rules.specs.Heap.{Heap}
 use Rattle.rules.specs.Settle.{pick, onPick, freeCell, reclaim, replayed, settledBy, settled}
-use Rattle.rules.specs.Call.{Answer, Fits, AllFit, unless, check}
-use Rattle.rules.specs.Step.{Stepped, Result, done, refused, needs, full, noneFree, wants, counted, settledIf, settledFor, takeCell, doNew, doDeed, acted, run, step, calls, unfreed}
+use Rattle.rules.specs.Call.{AllFit, unless, check}
+use Rattle.rules.specs.Step.{Stepped, done, refused, needs, full, noneFree, wants, counted, settledIf, settledFor, takeCell, doNew, doDeed, acted, run, step, calls, unfreed}
 use Rattle.rules.specs.Run.{NotSettle}
-use Rattle.rules.specs.Invariant.{Good, Inv, lives}
+use Rattle.rules.specs.Invariant.{Good, Inv}
 use Rattle.rules.specs.Moment.{freedBy, freedFor, freedIn}
 use Rattle.rules.specs.Rules.{replay}
 use Rattle.rules.proofs.Reclaim.{reclaim-keeps}

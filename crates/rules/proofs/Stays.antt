@@ -1,15 +1,14 @@
 -- What stays: a count at the cap, through every batch, and a structure that points to itself, through every settle. Assumes nothing.
 use Prim.Native.Nat.{ℕ, zero, suc, _<_, _≤_}
 use mathlib.Core.Path.{_≡_, refl, sym, ap, _∙_}
-use mathlib.Core.Bool.{Bool, true, false, true≢false}
+use mathlib.Core.Bool.{Bool, true, false}
 use mathlib.Core.Option.{Option, none, some}
-use mathlib.Core.List.{List, [], _∷_, _++_}
+use mathlib.Core.List.{List, [], _∷_}
 use native.Mathlib.Omega.{arith}
 use lib.Dec.{eqb}
-use lib.ListN.{length, getD, length-map}
+use lib.ListN.{length, length-map}
 use borrow.Author.Tests.{eqb-true, eq-eqb}
 use Rattle.rules.specs.declared.Head.{Head}
-use Rattle.rules.specs.declared.Field.the-variants.{Cell}
 use Rattle.rules.specs.declared.Call.{Call}
 use Rattle.rules.specs.declared.Call.the-variants.{New, Do, Settle}
 use Rattle.rules.specs.declared.Sizes.{Sizes}
@@ -23,8 +22,8 @@ use Rattle.rules.specs.Step.{refused, settledIf, settledFor, noneFree, w
 use Rattle.rules.specs.Rows.{Lent, rowsOf, headOf, heapOf}
 use Rattle.rules.specs.Whole.{Kept}
 use Rattle.rules.specs.Sound.{Sound, Sized}
-use Rattle.rules.specs.Invariant.{refs, live, View, view, named, Good, Inv}
-use Rattle.rules.specs.Moment.{Pointed, PointsToItself}
+use Rattle.rules.specs.Invariant.{refs, View, view, named, Good, Inv}
+use Rattle.rules.specs.Moment.{PointsToItself}
 use Rattle.rules.specs.Demands.{AtCap}
 use Rattle.rules.proofs.Tables.{change, view-own, view-other}
 use Rattle.rules.proofs.Turn.{turn-none, turn-live, turn-field}

@@ -1,22 +1,19 @@
 -- The heaps that break a fact of demand 2, refuted. Assumes nothing.
-use Prim.Native.Nat.{ℕ, _<_, _≤_}
-use mathlib.Core.Path.{_≡_, refl, sym, ap, _∙_}
+use Prim.Native.Nat.{ℕ, _<_}
+use mathlib.Core.Path.{_≡_, refl, sym, ap}
 use mathlib.Core.Bool.{Bool, true, false, true≢false, false≢true}
-use mathlib.Core.Option.{some}
 use mathlib.Core.List.{List, [], _∷_}
 use native.Mathlib.Omega.{arith}
 use lib.Dec.{eqb}
-use lib.IntN.{ℤ, pos, negsuc}
-use lib.ListN.{length, getD}
+use lib.IntN.{pos}
+use lib.ListN.{getD}
 use borrow.Author.Tests.{eqb-true}
-use Rattle.rules.specs.declared.Head.{Head}
 use Rattle.rules.specs.declared.Deed.the-variants.{Clear, Link, Put, Same}
 use Rattle.rules.specs.declared.Call.{Call}
 use Rattle.rules.specs.declared.Call.the-variants.{New, Do, Settle}
 use Rattle.rules.specs.Head.{freshHead, sized}
 use Rattle.rules.specs.Sound.{Sound, Sized, Word}
 use Rattle.rules.specs.Decide.{sound?, sized?, dec-word}
-use Rattle.rules.specs.Demands.{AtCap, HoldsBlank}
 use Rattle.rules.specs.Invariant as I
 use Rattle.rules.specs.Moment as M
 use Rattle.rules.proofs.Tests.{sized-true, sound-false}

@@ -1,7 +1,7 @@
 -- Heaps that cheat at what they answer, and those that show a figure where none is to be seen. Assumes nothing.
-use Prim.Native.Nat.{ℕ, suc, _+_}
-use mathlib.Core.Bool.{Bool, true, false, cond, _&&_}
-use mathlib.Core.List.{List, [], _∷_}
+use Prim.Native.Nat.{ℕ, suc}
+use mathlib.Core.Bool.{cond, _&&_}
+use mathlib.Core.List.{[], _∷_}
 use lib.Dec.{eqb}
 use lib.IntN.{ℤ, pos, negsuc}
 use lib.ListN.{getD, set}
@@ -12,7 +12,7 @@ use Rattle.rules.specs.declared.Call.{Call}
 use Rattle.rules.specs.declared.Call.the-variants.{New, Do, Settle}
 use Rattle.rules.specs.Call.{Answer, answer}
 use Rattle.rules.specs.Rows.{Lent}
-use Rattle.rules.specs.Refusals.{Batched, outcome, leaves, leavesWith, freshOf}
+use Rattle.rules.specs.Refusals.{outcome, leaves, leavesWith, freshOf}
 use Rattle.rules.specs.Run.{Heaps}
 use Rattle.worthless.specs.Forms.{withFresh, whereSaid, withRows, withWork, withValues, saying}
 

@@ -1,16 +1,14 @@
 -- How a heap that cheats is written down: ours with one thing changed. Assumes nothing.
 use Prim.Native.Nat.{ℕ, _-_}
-use mathlib.Core.Bool.{Bool, cond}
+use mathlib.Core.Bool.{cond}
 use mathlib.Core.Option.{Option, none, some}
-use mathlib.Core.List.{List, [], _∷_, _++_}
+use mathlib.Core.List.{List, [], _∷_}
 use lib.Dec.{eqb}
 use lib.IntN.{ℤ}
-use lib.ListN.{drop, length}
 use Rattle.rules.specs.declared.Head.{Head}
 use Rattle.rules.specs.declared.Sizes.{Sizes}
 use Rattle.rules.specs.declared.Call.{Call}
 use Rattle.rules.specs.Heap.{Heap}
-use Rattle.rules.specs.Settle.{settledBy}
 use Rattle.rules.specs.Call.{Answer, unless, check, callsIn}
 use Rattle.rules.specs.Step.{Stepped, refused, wants, counted, acted, Result, batch}
 use Rattle.rules.specs.Rows.{Lent, lent, rowsOf, headOf, heapOf}

@@ -1,11 +1,10 @@
 -- Heaps that cheat at what they refuse. Assumes nothing.
 use Prim.Native.Nat.{ℕ}
 use mathlib.Core.Bool.{cond}
-use mathlib.Core.List.{List, [], _∷_}
+use mathlib.Core.List.{[]}
 use lib.Dec.{eqb}
-use lib.IntN.{ℤ, pos}
+use lib.IntN.{pos}
 use lib.ListN.{length, replicate}
-use Rattle.rules.specs.declared.Head.{Head}
 use Rattle.rules.specs.declared.Sizes.{Sizes}
 use Rattle.rules.specs.declared.Deed.the-variants.{Copy, Clear, Link, Put, Blank, Follow, Read, Same}
 use Rattle.rules.specs.declared.Call.{Call}
@@ -13,9 +12,9 @@ use Rattle.rules.specs.declared.Call.the-variants.{New, Do, Settle}
 use Rattle.rules.specs.Head.{freshHead}
 use Rattle.rules.specs.Heap.{Heap}
 use Rattle.rules.specs.Settle.{settled}
-use Rattle.rules.specs.Call.{Answer, answer}
+use Rattle.rules.specs.Call.{answer}
 use Rattle.rules.specs.Step.{Stepped, step, fresh}
-use Rattle.rules.specs.Rows.{Lent, rowsOf}
+use Rattle.rules.specs.Rows.{rowsOf}
 use Rattle.rules.specs.Refusals.{outcome, leaves, leavesWith, cleared, freshOf, auditOf, batchOf}
 use Rattle.rules.specs.Run.{Heaps}
 use Rattle.worthless.specs.Forms.{withFresh, withAudit, withBatch, whereSaid, withRows, withStatus, withWork, withVariables, saying, callsBy, working}

@@ -4,8 +4,8 @@ use mathlib.Core.Bool.{Bool, true, false, cond, not, _&&_}
 use mathlib.Core.Option.{Option, none, some}
 use mathlib.Core.List.{List, [], _∷_, _++_, map}
 use lib.Dec.{eqb, ltb}
-use lib.IntN.{ℤ, pos}
-use lib.ListN.{set, drop}
+use lib.IntN.{pos}
+use lib.ListN.{drop}
 use Rattle.rules.specs.declared.Field.{Field}
 use Rattle.rules.specs.declared.Field.the-variants.{Nothing, Figure, Cell, Free}
 use Rattle.rules.specs.declared.Sizes.{Sizes}
@@ -13,14 +13,13 @@ use Rattle.rules.specs.declared.Deed.the-variants.{Clear}
 use Rattle.rules.specs.declared.Call.{Call}
 use Rattle.rules.specs.declared.Call.the-variants.{New, Do, Settle}
 use Rattle.rules.specs.Heap.{Tables, allocates, destroys, Heap, field, store}
-use Rattle.rules.specs.Rules.{leaveZct, enterMrt, replay}
+use Rattle.rules.specs.Rules.{leaveZct, enterMrt}
 use Rattle.rules.specs.Settle.{holds, pick, onPick, freeCell, replayed, settledBy, settled}
-use Rattle.rules.specs.Call.{drops, var, check, sameCell, unless, hold}
+use Rattle.rules.specs.Call.{var, check, sameCell, unless, hold}
 use Rattle.rules.specs.Step.{Stepped, done, refused, noneFree, wants, counted, settledIf, settledFor, after, acted, Result, step, unfreed}
-use Rattle.rules.specs.Rows.{Lent}
 use Rattle.rules.specs.Invariant.{live, lives}
 use Rattle.rules.specs.Sound.{pointersTo}
-use Rattle.rules.specs.Refusals.{Batched, outcome, leavesWith}
+use Rattle.rules.specs.Refusals.{outcome}
 use Rattle.rules.specs.Run.{Heaps}
 use Rattle.worthless.specs.Forms.{whereSaid, withRows, withLog, withCounts, callsBy, working, stepBy, settling}
 
