@@ -66,9 +66,6 @@ module _ (s : Sizes) (h : Heap) where
   heap-of-rows =
       rw (fields-back (h .shape .fields), variables-back (h .shape .variables), take-pad (s .n) (length (h .tables .zct)) (h .tables .zct) refl, addresses-of, counts-of, entries-back (h .tables .mrt))
 
-pub heap-of-ended : {s : Sizes} {h : Heap} → Ended s h → heapOf (headOf s h) (rowsOf s h) ≡ started h
-heap-of-ended {s} {h} E = heap-of-rows s h
-
 -- so a batch on the rows of a heap is a batch on the heap
 pub batch-of-ended : {s : Sizes} {h : Heap} (cs : List Call) → Ended s h → batch s cs (heapOf (headOf s h) (rowsOf s h)) ≡ batch s cs h
 unfolding batch

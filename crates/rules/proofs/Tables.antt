@@ -201,20 +201,12 @@ module _ (cap : ℕ) (cap3 : 3 ≤ cap) where
       go false false e zero f = absurd (omega arith)
       go false false e (suc j) f = let d = eqb-false k 1 e in rw f (omega arith)
 
-  -- the laws of the count: at the address of the change
-  pub count-allocate : (a : ℕ) (t : Tables) → count (apply cap (allocates a) t) a ≡ 0
-  unfolding change
-  count-allocate a t = rw (view-own cap (allocates a) t)
-
+  -- the laws of the count, at the address of the change
   pub count-create : (a : ℕ) (t : Tables) → okV cap (view t a) → count (apply cap (creates a) t) a ≡ up cap (count t a)
   count-create a t o = rw (view-own cap (creates a) t) (up-of a (view t a .0) (view t a .1) o)
 
   pub count-destroy : (a : ℕ) (t : Tables) → okV cap (view t a) → count (apply cap (destroys a) t) a ≡ down cap (count t a)
   count-destroy a t o = rw (view-own cap (destroys a) t) (down-of a (view t a .0) (view t a .1) o)
-
-  -- at any other
-  pub count-other : (x : Transaction) (t : Tables) (b : ℕ) → eqb b (named x) ≡ false → count (apply cap x t) b ≡ count t b
-  count-other x t b d = rw (view-other cap x t b d)
 
   pub ok-at-create : (a : ℕ) (t : Tables) → okV cap (view t a) → okV cap (view (apply cap (creates a) t) a)
   ok-at-create a t o = rw (view-own cap (creates a) t) (ok-create a (view t a .0) (view t a .1) o)

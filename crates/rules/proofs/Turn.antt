@@ -70,10 +70,6 @@ module _ (n cap : ℕ) (cap3 : 3 ≤ cap) (hs : List (Option ℕ)) (h : Heap) (g
   unfolding freeCell
   turn-mark = field-across marked a 1 0 Nothing (omega arith) (omega arith) (omega arith) ∙ field-same fs a 0 (Free (h .first)) there
 
-  pub turn-blank : field (then .shape .fields) a 1 ≡ Nothing
-  unfolding freeCell
-  turn-blank = field-same marked a 1 Nothing there-1
-
   -- ---- every other cell is as it was
 
   pub turn-live : (b : ℕ) → live (then .shape .fields) b ≡ cond (eqb b a) false (live fs b)
