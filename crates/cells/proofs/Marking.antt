@@ -56,12 +56,16 @@ marked-next n v a w w′ xs h M e q =
       marks = λ b l. rw (q, e, add-one, take-suc xs v (pos 0) h, holds-more b (take v xs) (getD xs v (pos 0))) (mark-one n w (map heldOf (take v xs)) (getD xs v (pos 0)) M b l);
     }
 
-pub marked-all : (n v : ℕ) (w : List ℕ) (xs : List ℤ) → length xs ≤ v → Marks n w (map heldOf (take v xs)) → (hs : List (Option ℕ)) → xs ≡ map variableOf hs → Marks n w hs
-marked-all n v w xs h M hs e =
-    let q : map heldOf xs ≡ hs = rw e (variables-back hs) in
-    rw (take-all v xs h, q) at M
+pub marked-all : (n v : ℕ) (w : List ℕ) (xs : List ℤ) → length xs ≤ v → Marks n w (map heldOf (take v xs)) → Marks n w (map heldOf xs)
+marked-all n v w xs h M = rw (take-all v xs h) at M
 
 -- ---- for callers: what a variable's word holds, and what is put into it
+
+-- a row of variables that is the holds hs has the marks of hs
+pub marks-of : {n : ℕ} {w : List ℕ} {xs : List ℤ} → Marks n w (map heldOf xs) → (hs : List (Option ℕ)) → xs ≡ map variableOf hs → Marks n w hs
+marks-of {xs = xs} M hs e =
+    let q : map heldOf xs ≡ hs = rw e (variables-back hs) in
+    rw q at M
 
 -- the address that is read is that of the hold
 pub held-is : (n v : ℕ) (xs : List ℤ) (hs : List (Option ℕ)) → xs ≡ map variableOf hs → v < length xs → addressOf n (getD xs v (pos 0)) ≡ addressOf n (variableOf (getD hs v none))

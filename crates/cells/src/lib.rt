@@ -1,13 +1,12 @@
 // Leaves on the rows: a field, a variable, the log, the free list, the marks of what is held, a fresh heap.
 ghost use mathlib.Core.Path.{_≡_};
 ghost use mathlib.Core.List.{List, [], _∷_, _++_, map};
-ghost use mathlib.Core.Option.{Option};
 ghost use Prim.Native.Nat.{ℕ, _+_, _*_, _<_, _≤_};
 ghost use lib.ListN.{length, getD, set, replicate};
 ghost use lib.IntN.{pos, negsuc};
 ghost use Rattle.rules.specs.declared.Field.{Field};
 ghost use Rattle.rules.specs.declared.Field.the-variants.{Nothing, Free};
-ghost use Rattle.rules.specs.Field.{addressOf, fieldOf, kindOf, valueOf, variableOf};
+ghost use Rattle.rules.specs.Field.{addressOf, fieldOf, kindOf, valueOf, variableOf, heldOf};
 ghost use Rattle.rules.specs.Head.{freshHead};
 ghost use Rattle.rules.specs.Heap.{Transaction};
 ghost use Rattle.rules.specs.Call.{drops};
@@ -17,7 +16,7 @@ ghost use Rattle.rules.specs.Lending.{rowsNow, exits};
 ghost use Rattle.rules.specs.Sound.{Sized};
 ghost use Rattle.rules.specs.Whole.{Inside, Cells, Logged};
 ghost use Rattle.cells.specs.Leaves.{heldAs};
-ghost use Rattle.cells.specs.Log.{transaction, Noted};
+ghost use Rattle.cells.specs.Log.{transaction, withEntry, withOld, Noted};
 ghost use Rattle.cells.specs.Free.{CellTaken, FreedTo};
 ghost use Rattle.cells.specs.Marks.{Marks};
 use rules::Field;
@@ -138,6 +137,7 @@ pub fn add_entry(log: &mut [u32], len: usize, kind: u32, a: usize) -> usize
     requires { ⌜ (2 * len + 1 < length (now log)) × (a < 2048) ⌝ }
     requires { ⌜ (1 ≤ kind) × (kind ≤ 3) ⌝ }
     ensures count { λ r. ⌜ r ≡ len + 1 ⌝ }
+    ensures row { λ _. ⌜ now (log .exit) ≡ withEntry (now (log .entry)) len kind a ⌝ }
     ensures logged { λ r. ⌜ ((n : ℕ) (xs : List Transaction) → Logged n (now (log .entry)) len xs → a < n → Logged n (now (log .exit)) r (xs ++ (transaction kind a ∷ []))) ⌝ }
 {
     log[2 * len] = kind;
@@ -150,6 +150,7 @@ pub fn log_old(log: &mut [u32], len: usize, old: Field) -> usize
     requires { ⌜ 2 * (len + length (drops old)) ≤ length (now log) ⌝ }
     requires { ⌜ Inside 1024 old ⌝ }
     ensures count { λ r. ⌜ r ≡ len + length (drops old) ⌝ }
+    ensures row { λ _. ⌜ now (log .exit) ≡ withOld (now (log .entry)) len old ⌝ }
     ensures logged { λ r. ⌜ ((n : ℕ) (xs : List Transaction) → Logged n (now (log .entry)) len xs → Inside n old → Logged n (now (log .exit)) r (xs ++ drops old)) ⌝ }
 {
     match old {
@@ -204,7 +205,10 @@ fn after_field(f: Field) -> usize
 // The first free cell a is taken: its field 0 becomes nothing. The next free address.
 pub fn take_free(kinds: &mut [u8], values: &mut [i32], a: usize) -> usize
     requires { ⌜ (2 * a < length (now kinds)) × (2 * a < length (now values)) ⌝ }
-    ensures { λ r. ⌜ ((n : ℕ) (fs : List Field) → Cells n (now (kinds .entry)) (now (values .entry)) fs → CellTaken n (now (kinds .exit)) (now (values .exit)) a r fs) ⌝ }
+    ensures kinds { λ _. ⌜ now (kinds .exit) ≡ set (now (kinds .entry)) (2 * a) (kindOf Nothing) ⌝ }
+    ensures values { λ _. ⌜ now (values .exit) ≡ set (now (values .entry)) (2 * a) (valueOf Nothing) ⌝ }
+    ensures next { λ r. ⌜ r ≡ after (fieldOf (getD (now (kinds .entry)) (2 * a) 0) (getD (now (values .entry)) (2 * a) (pos 0))) ⌝ }
+    ensures cells { λ r. ⌜ ((n : ℕ) (fs : List Field) → Cells n (now (kinds .entry)) (now (values .entry)) fs → CellTaken n (now (kinds .exit)) (now (values .exit)) a r fs) ⌝ }
 {
     let i = 2 * a;
     let old = field_at(kinds, values, i);
@@ -223,7 +227,7 @@ fn mark(row: &mut [u32], a: usize)
 
 // The work row: 1 at each address that a variable holds, else 0.
 pub fn mark_held(variables: &[i32], work: &mut [u32])
-    ensures { λ _. ⌜ ((hs : List (Option ℕ)) → now (variables .entry) ≡ map variableOf hs → Marks (length (now (work .entry))) (now (work .exit)) hs) ⌝ }
+    ensures { λ _. ⌜ Marks (length (now (work .entry))) (now (work .exit)) (map heldOf (now (variables .entry))) ⌝ }
 {
     clear(work);
     let n = work.len();

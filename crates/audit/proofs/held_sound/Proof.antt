@@ -1,7 +1,4 @@
-use mathlib.Core.Path.{sym}
-use mathlib.Core.List.{map}
 use borrow.Author.Needs.{needs}
-use Rattle.rules.specs.Field.{heldOf}
 use Rattle.rules.proofs.Answers.{same}
 use Rattle.audit.proofs.Whole.{marked-held, held-marked}
 use Rattle.audit.proofs.held_sound.Statement.{statement}
@@ -15,7 +12,7 @@ all-held-requires c κs =
     let start : tie.Start = search needs in
     let marked : tie.After-mark-held = search needs in
     let p = start .pre in
-    let m = marked .mark-held .ensures (map heldOf (start .args .variables .now)) (sym (p .1 .1)) in
+    let m = marked .mark-held .ensures in
     (p .0 .0, rw (m .long, p .0 .1) (p .1 .0))
 
 same-length : tie.Need-same-length
@@ -26,7 +23,7 @@ returns c =
     let start : tie.Start = search needs in
     let marked : tie.After-mark-held = search needs in
     let p = start .pre in
-    let m = rw (p .0 .1) at (marked .mark-held .ensures (map heldOf (start .args .variables .now)) (sym (p .1 .1))) in
+    let m = rw (p .0 .1) at (marked .mark-held .ensures) in
     same
     (marked-held _ _ (start .args .zct .now) (start .args .used) _ (p .1 .0) (p .1 .1) m)
     (held-marked _ _ (start .args .zct .now) (start .args .used) _ (p .1 .0) (p .1 .1) m)

@@ -38,7 +38,7 @@ returns c =
     let w : tie.After-write = search needs in
     let l : tie.After-add-entry = search needs in
     let e = b .held .ensures in
-    λ sh ts S L. linked sh ts _ _ _ _ (S .held) (s .pre .w-below) e (link-near (s .pre) e) (w .write .ensures sh ts S L) (l .add-entry .ensures .1)
+    λ sh ts S L. linked sh ts _ _ _ _ (S .held) (s .pre .w-below) e (link-near (s .pre) e) (w .write .ensures sh ts S L) (l .add-entry .ensures .1 .1)
 
 pub link-spec : {M : Type 1} → statement M
 link-spec =

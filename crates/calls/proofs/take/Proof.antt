@@ -34,7 +34,7 @@ returns-2 c =
     let h : tie.After-hold = search needs in
     let f : tie.After-take-free = search needs in
     let e : tie.Else1 = search needs in
-    took _ (e .if1 .left) (f .take-free .ensures) (h .hold .ensures) (m .add-entry .ensures .1) (l .log .given)
+    took _ (e .if1 .left) (f .take-free .ensures .1 .1 .1) (h .hold .ensures) (m .add-entry .ensures .1 .1) (l .log .given)
 
 pub take-spec : {M : Type 1} → statement M
 take-spec =

@@ -55,7 +55,7 @@ returns c =
     let o : tie.After-field-at = search needs in
     let a : tie.After-held = search needs in
     let s : tie.Start = search needs in
-    wrote (s .pre) (a .held .ensures) (o .field-at .result) (o .field-at .ensures) (w .put-field .ensures .0) (w .put-field .ensures .1) (l .log-old .ensures .1)
+    wrote (s .pre) (a .held .ensures) (o .field-at .result) (o .field-at .ensures) (w .put-field .ensures .0) (w .put-field .ensures .1) (l .log-old .ensures .1 .1)
 
 pub write-spec : {M : Type 1} → statement M
 write-spec =

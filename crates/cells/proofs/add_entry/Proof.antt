@@ -38,7 +38,7 @@ same-length : tie.Need-same-length
 same-length c = search needs
 
 returns : tie.Need-returns
-returns c = (refl, λ n xs L h. logged-more _ _ (c .pre .1 .0) (c .pre .1 .1) L (c .pre .0 .0) h refl)
+returns c = (refl, (refl, λ n xs L h. logged-more _ _ (c .pre .1 .0) (c .pre .1 .1) L (c .pre .0 .0) h refl))
 
 pub add-entry-spec : {M : Type 1} → statement M
 add-entry-spec =

@@ -1,4 +1,5 @@
 -- `cells::log_old` meets its contract: an entry where the field is a cell, else the log as it was. Assumes nothing.
+use mathlib.Core.Path.{refl}
 use native.Mathlib.Omega.{arith}
 use Rattle.cells.specs.Log.{transaction}
 use Rattle.cells.proofs.Logging.{logged-same}
@@ -27,10 +28,10 @@ enum-told-3 : tie.Need-enum-told-3
 enum-told-3 c = search needs
 
 returns : tie.Need-returns
-returns c = rw (c .enum-told .given .1) (omega arith, λ n xs L I. logged-same L)
+returns c = rw (c .enum-told .given .1) (omega arith, (refl, λ n xs L I. logged-same L))
 
 returns-2 : tie.Need-returns-2
-returns-2 c = rw (c .enum-told2 .given .1) (omega arith, λ n xs L I. logged-same L)
+returns-2 c = rw (c .enum-told2 .given .1) (omega arith, (refl, λ n xs L I. logged-same L))
 
 same-length : tie.Need-same-length
 same-length c = search needs
@@ -40,10 +41,10 @@ unfolding transaction
 returns-3 c =
     let e = c .before .before .before .before .before .old .given .1 in
     let r = c .before .before .add-entry .ensures in
-    rw e (r .0, r .1)
+    rw e (r .0, (r .1 .0, r .1 .1))
 
 returns-4 : tie.Need-returns-4
-returns-4 c = rw (c .enum-told3 .given .1) (omega arith, λ n xs L I. logged-same L)
+returns-4 c = rw (c .enum-told3 .given .1) (omega arith, (refl, λ n xs L I. logged-same L))
 
 pub log-old-spec : {M : Type 1} → statement M
 log-old-spec =

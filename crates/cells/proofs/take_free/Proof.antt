@@ -1,4 +1,6 @@
 -- `cells::take_free` meets its contract: the field that was read, and a store of nothing. Assumes nothing.
+use mathlib.Core.Path.{ap, _∙_}
+use Rattle.rules.specs.Step.{after}
 use Rattle.cells.proofs.Storing.{taken}
 use borrow.Author.Needs.{needs}
 use Rattle.cells.proofs.take_free.Statement.{statement}
@@ -29,7 +31,7 @@ returns c =
     let s = start in
     let x = after-field-at .field-at in
     let y = c .before .before .before .before .put-field .ensures in
-    λ n fs C. taken (s .args .a) _ (x .result) C (x .ensures) (c .after-field .ensures) (y .0) (y .1)
+    (y .0, (y .1, (c .after-field .ensures ∙ ap after (x .ensures), λ n fs C. taken (s .args .a) _ (x .result) C (x .ensures) (c .after-field .ensures) (y .0) (y .1))))
 
 pub take-free-spec : {M : Type 1} → statement M
 take-free-spec =

@@ -1,5 +1,7 @@
 -- `settle::settle` meets its contract: replay, clear, mark, reclaim, clear. Assumes nothing.
 use borrow.Author.Needs.{needs}
+use mathlib.Core.Path.{_∙_}
+use Rattle.cells.proofs.Marking.{marks-of}
 use Rattle.settle.proofs.Replaying.{replayable}
 use Rattle.settle.proofs.Settling.{reclaimable-by, settled-by}
 use Rattle.settle.proofs.settle.Statement.{statement}
@@ -13,6 +15,9 @@ replayed c = search needs
 
 abbrev marked : tie.After-reclaim → tie.After-mark-held
 marked c = search needs
+
+abbrev lent : tie.After-mark-held → tie.After-zct
+lent c = search needs
 
 cast-cap : tie.Need-cast-cap
 cast-cap c = search needs
@@ -31,7 +36,7 @@ mark-held-requires c κs = search needs
 reclaim-requires : tie.Need-reclaim-requires
 reclaim-requires c κs = let m : tie.After-mark-held = search needs in
     let r = replayed m in
-    reclaimable-by (r .replay .ensures) (m .mark-held .ensures) (start r .pre)
+    reclaimable-by (r .replay .ensures) (marks-of (m .mark-held .ensures)) (start r .pre)
 
 clear-requires-2 : tie.Need-clear-requires-2
 clear-requires-2 c κs = search needs
@@ -43,7 +48,10 @@ same-length-2 : tie.Need-same-length-2
 same-length-2 c = search needs
 
 same-length-3 : tie.Need-same-length-3
-same-length-3 c = search needs
+same-length-3 c =
+    let z : tie.After-zct2 = search needs in
+    let d : tie.After-reclaim = search needs in
+    z .zct2 .given ∙ lent (marked d) .zct .given
 
 same-length-4 : tie.Need-same-length-4
 same-length-4 c = search needs
@@ -61,7 +69,7 @@ returns : tie.Need-returns
 returns c = let d : tie.After-reclaim = search needs in
     let m = marked d in
     let l : tie.After-clear = search needs in
-    settled-by (replayed m .replay .ensures) (m .mark-held .ensures) (d .reclaim .ensures) (l .clear .ensures) (c .before .before .clear2 .ensures)
+    settled-by (replayed m .replay .ensures) (marks-of (m .mark-held .ensures)) (d .reclaim .ensures) (l .clear .ensures) (c .before .before .clear2 .ensures)
 
 pub settle-spec : {M : Type 1} → statement M
 settle-spec =
