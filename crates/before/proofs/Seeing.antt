@@ -16,8 +16,8 @@ use Rattle.rules.specs.Field.{addressOf, variableOf, fieldOf}
 use Rattle.rules.specs.Heap.{Shape, place, field}
 use Rattle.rules.specs.Call.{var, at, isHeld, makes}
 use Rattle.cells.specs.Leaves.{heldAs}
-use Rattle.cells.proofs.Storing.{read}
-use Rattle.before.specs.Seen.{Held, Shown, Reach, Reaches}
+use Rattle.cells.proofs.Storing.{cell-lengths, read}
+use Rattle.before.specs.Seen.{Held, Shown, fieldBelow, Reach, Reaches}
 
 -- a word of the row is what its variable holds, past no default
 word : (hs : List (Option ℕ)) (v : ℕ) → v < length (map variableOf hs) → getD (map variableOf hs) v (pos 0) ≡ variableOf (getD hs v none)
@@ -65,9 +65,21 @@ module _ {n : ℕ} {ks : List ℕ} {xs vs : List ℤ} {s : Shape} (S : Shown n k
   unfolding at var
   at-none e h = rw (held-none (S .held) v l e h, at, var)
 
+-- the same of the rows alone
+module _ {n : ℕ} (ks : List ℕ) (xs : List ℤ) (f : ℕ) {a b : ℕ} (e : a ≡ b) where
+  pub below-some : {x : Field} → a < n → x ≡ fieldOf (getD ks (2 * a + f) 0) (getD xs (2 * a + f) (pos 0)) → x ≡ fieldBelow n ks xs b f
+  unfolding fieldBelow
+  below-some h q = rw (← e, fieldBelow, lt-ltb a n h) q
+
+  pub below-none : n ≤ a → Nothing ≡ fieldBelow n ks xs b f
+  unfolding fieldBelow
+  below-none h = rw (← e, fieldBelow, le-ltb a n h)
+
 pub made : (o : Option ℕ) (r : ℕ) (q : Bool) → q ≡ isHeld o → r ≡ cond q 1 0 → r ≡ length (makes o)
 made none r q e h = h ∙ ap (λ (x : Bool). cond x 1 0) e
 made (some a) r q e h = h ∙ ap (λ (x : Bool). cond x 1 0) e
 
 pub reach : {n : ℕ} {ks : List ℕ} {xs vs : List ℤ} {c : Call} {v f : ℕ} → Reaches n ks xs vs c → v < length vs → f < 2 → Reach n ks xs vs v f
-reach R l k = record { kinds-long = R .kinds-long; values-long = R .values-long; v-below = l; f-below = k }
+reach R l k =
+    let c = cell-lengths (R .shown .cells) in
+    record { kinds-long = c .0; values-long = c .1; v-below = l; f-below = k }

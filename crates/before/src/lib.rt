@@ -5,12 +5,14 @@ ghost use mathlib.Core.List.{List, _++_};
 ghost use mathlib.Core.Option.{Option, none};
 ghost use Prim.Native.Nat.{ℕ, _<_, _≤_};
 ghost use lib.ListN.{length, getD};
+ghost use lib.IntN.{pos};
 ghost use Rattle.rules.specs.declared.Deed.the-variants.{Follow, Read};
 ghost use Rattle.rules.specs.declared.Call.the-variants.{Do};
+ghost use Rattle.rules.specs.Field.{addressOf};
 ghost use Rattle.rules.specs.Heap.{Shape};
 ghost use Rattle.rules.specs.Call.{drops, var, at, isHeld, isCell, noFigure, want, refuses, check, makes, logs};
 ghost use Rattle.rules.specs.Step.{needs};
-ghost use Rattle.before.specs.Seen.{Held, Shown, Reach, Reaches};
+ghost use Rattle.before.specs.Seen.{Held, Shown, fieldBelow, Reach, Reaches};
 use cells::field_at;
 use cells::held;
 use rules::Call;
@@ -37,7 +39,8 @@ pub fn field_of(
     f: usize,
 ) -> Field
     requires { ⌜ Reach n (now kinds) (now values) (now variables) v f ⌝ }
-    ensures { λ r. ⌜ ((s : Shape) → Shown n (now (kinds .entry)) (now (values .entry)) (now (variables .entry)) s → r ≡ at s v f) ⌝ }
+    ensures field { λ r. ⌜ r ≡ fieldBelow n (now (kinds .entry)) (now (values .entry)) (addressOf n (getD (now (variables .entry)) v (pos 0))) f ⌝ }
+    ensures seen { λ r. ⌜ ((s : Shape) → Shown n (now (kinds .entry)) (now (values .entry)) (now (variables .entry)) s → r ≡ at s v f) ⌝ }
 {
     let a = held(variables, v, n);
     if a < n {

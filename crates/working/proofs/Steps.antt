@@ -23,7 +23,6 @@ use Rattle.rules.specs.Invariant.{Inv}
 use Rattle.rules.proofs.Calls.{call-fits}
 use Rattle.rules.proofs.Step.{settledIf-variables, step-inv, for-room, for-right}
 use Rattle.rules.proofs.Facts.{check-reason, Fourteen, call-refused}
-use Rattle.cells.proofs.Storing.{cell-lengths}
 use Rattle.words.specs.Words.{decodedAs, callAt}
 use Rattle.before.specs.Seen.{Shown, Reaches}
 use Rattle.calls.specs.Doing.{Able, Does}
@@ -85,9 +84,8 @@ as-many W e = rw (W .variables-are) (simp length-map e)
 module _ {s : Sizes} {r : Lent} {at : State} {h : Heap} (S : Standing s r at h) where
   pub reaches : (c : Call) → Fits (s .m) c → Reaches (s .n) (r .kinds) (r .values) (r .variables) c
   reaches c f =
-      let l = cell-lengths (S .whole .rows .cells) in
       let m = as-many (S .whole) (S .inv .variables-long) in
-      record { kinds-long = l .0; values-long = l .1; fits = rw m f }
+      record { shape = h .shape; shown = shown-of (S .whole); fits = rw m f }
 
   pub few : (at .len ≤ 1024) × (at .len ≡ length (h .log))
   few =

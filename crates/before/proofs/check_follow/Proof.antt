@@ -21,7 +21,7 @@ returns : tie.Need-returns
 unfolding refuses var
 returns c =
     λ w s S.
-    let t = c .before .before .is-cell .ensures ∙ ap isCell (c .before .before .before .field-of .ensures s S) in
+    let t = c .before .before .is-cell .ensures ∙ ap isCell (c .before .before .before .field-of .ensures .1 s S) in
     rw (← c .before .want .ensures ∙ ap (λ (b : Bool). want b 12) t) (c .eleven-first .ensures _ (S .held))
 
 pub check-follow-spec : {M : Type 1} → statement M

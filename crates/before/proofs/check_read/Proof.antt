@@ -17,7 +17,7 @@ returns : tie.Need-returns
 unfolding refuses var
 returns c =
     λ s S.
-    let t = c .before .no-figure .ensures ∙ ap noFigure (c .before .before .field-of .ensures s S) in
+    let t = c .before .no-figure .ensures ∙ ap noFigure (c .before .before .field-of .ensures .1 s S) in
     rw (← t) (c .eleven-first .ensures _ (S .held))
 
 pub check-read-spec : {M : Type 1} → statement M

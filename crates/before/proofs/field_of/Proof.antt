@@ -1,4 +1,4 @@
-use Rattle.before.proofs.Seeing.{at-some, at-none}
+use Rattle.before.proofs.Seeing.{at-some, at-none, below-some, below-none}
 use borrow.Author.Needs.{needs}
 use Rattle.before.proofs.field_of.Statement.{statement}
 use Rattle.before.proofs.field_of.Tie as tie
@@ -18,12 +18,17 @@ field-at-requires c κs = search needs
 returns : tie.Need-returns
 returns c =
     let p = c .before .before .before .before .pre in
-    λ s S. at-some S _ _ (p .v-below) (c .before .before .held .ensures) (c .before .if1 .taken) (c .field-at .ensures)
+    let h = c .before .before .held .ensures in
+    let t = c .before .if1 .taken in
+    let q = c .field-at .ensures in
+    (below-some _ _ _ h t q, λ s S. at-some S _ _ (p .v-below) h t q)
 
 returns-2 : tie.Need-returns-2
 returns-2 c =
     let p = c .before .before .before .pre in
-    λ s S. at-none S _ _ (p .v-below) (c .before .held .ensures) (c .if1 .left)
+    let h = c .before .held .ensures in
+    let t = c .if1 .left in
+    (below-none _ _ _ h t, λ s S. at-none S _ _ (p .v-below) h t)
 
 pub field-of-spec : {M : Type 1} → statement M
 field-of-spec =

@@ -23,7 +23,7 @@ returns : tie.Need-returns
 unfolding var
 returns c =
     λ s S.
-    let d = c .before .drop-count .ensures .0 ∙ ap (λ (x : Field). length (drops x)) (c .before .before .field-of .ensures s S) in
+    let d = c .before .drop-count .ensures .0 ∙ ap (λ (x : Field). length (drops x)) (c .before .before .field-of .ensures .1 s S) in
     let m = c .make-count .ensures .1 _ (S .held) in
     rw length-append (omega arith)
 

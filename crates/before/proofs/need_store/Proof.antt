@@ -13,7 +13,7 @@ drop-count-requires : tie.Need-drop-count-requires
 drop-count-requires c κs = search needs
 
 returns : tie.Need-returns
-returns c = λ s S. c .drop-count .ensures .0 ∙ ap (λ (x : Field). length (drops x)) (c .before .field-of .ensures s S)
+returns c = λ s S. c .drop-count .ensures .0 ∙ ap (λ (x : Field). length (drops x)) (c .before .field-of .ensures .1 s S)
 
 pub need-store-spec : {M : Type 1} → statement M
 need-store-spec = tie.close (tie.spec field-of-requires drop-count-requires returns)

@@ -18,7 +18,7 @@ same-length c = search needs
 
 returns : tie.Need-returns
 returns c =
-    (refl, λ s S. followed _ _ _ _ _ S (c .before .before .before .before .field-of .ensures s S) (c .before .before .before .target-or .ensures) (c .before .hold .ensures))
+    (refl, λ s S. followed _ _ _ _ _ S (c .before .before .before .before .field-of .ensures .1 s S) (c .before .before .before .target-or .ensures) (c .before .hold .ensures))
 
 pub follow-spec : {M : Type 1} → statement M
 follow-spec =

@@ -12,7 +12,7 @@ figure-of-requires : tie.Need-figure-of-requires
 figure-of-requires c κs = search needs
 
 returns : tie.Need-returns
-returns c = λ s S. back _ (c .figure-of .ok) ∙ c .figure-of .ensures ∙ ap figureOf (c .before .field-of .ensures s S)
+returns c = λ s S. back _ (c .figure-of .ok) ∙ c .figure-of .ensures ∙ ap figureOf (c .before .field-of .ensures .1 s S)
 
 pub read-spec : {M : Type 1} → statement M
 read-spec = tie.close (tie.spec field-of-requires figure-of-requires returns)
