@@ -7,6 +7,7 @@ ghost use lib.ListN.{length, take, drop};
 ghost use Rattle.rules.specs.Table.{Ascending, has, pad, insert, remove, countIn};
 ghost use Rattle.rules.specs.Heap.{allocates, creates, destroys};
 ghost use Rattle.rules.specs.Rules.{onCreate, onDestroy, apply};
+ghost use Rattle.rules.specs.Whole.{Is};
 ghost use Rattle.rules.specs.Lending.{tablesNow, tableEntries, tableExits};
 ghost use Rattle.tables.specs.Row.{place, put, cut, Moved, Padded, Listed, MrtRows, Tabled, RowBy, MrtBy, TablesBy, ZctBy};
 use rules::Used;
@@ -166,7 +167,9 @@ fn count_down(mrt: &mut [u32], counts: &mut [u32], used: usize, cap: u32, a: u32
 pub fn allocate(zct: &mut [u32], used: Used, a: u32) -> Used
     requires { ⌜ Listed (now zct) (used .zct) ⌝ }
     requires { ⌜ a < length (now zct) ⌝ }
-    ensures { λ r. ⌜ ZctBy (λ cap. apply cap (allocates a)) (now (zct .entry)) used (now (zct .exit)) r ⌝ }
+    ensures zct { λ r. ⌜ Is (length (now (zct .entry))) (now (zct .exit)) (r .zct) (insert a (take (used .zct) (now (zct .entry)))) ⌝ }
+    ensures mrt { λ r. ⌜ r .mrt ≡ used .mrt ⌝ }
+    ensures tables { λ r. ⌜ ZctBy (λ cap. apply cap (allocates a)) (now (zct .entry)) used (now (zct .exit)) r ⌝ }
 {
     let z = enter(zct, used.zct, a);
     Used {

@@ -19,7 +19,7 @@ returns : tie.Need-returns
 returns c = let a = c .before .before in
     let t = a .before .before in
     λ n u R.
-    rw (is-allocate _ _ (t .if1 .taken)) (a .allocate .ensures _ _ _ n u R)
+    rw (is-allocate _ _ (t .if1 .taken)) (a .allocate .ensures .1 .1 _ _ _ n u R)
 
 create-requires : tie.Need-create-requires
 create-requires c κs = search needs
