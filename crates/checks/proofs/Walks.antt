@@ -1,19 +1,21 @@
 -- Laws of the free list: a path is followed one cell on, and any whole list goes on from where a walk has come. Assumes nothing.
 use Prim.Native.Nat.{ℕ, zero, suc, _+_, _*_, _<_, _≤_}
-use mathlib.Core.Path.{_≡_, refl, ap, _∙_}
-use mathlib.Core.Bool.{Bool, true, false, true≢false, false≢true}
-use mathlib.Core.List.{List, [], _∷_, _++_}
+use mathlib.Core.Path.{_≡_, refl, sym, ap, _∙_}
+use mathlib.Core.Logic.{_⊎_, inl, inr, ⊎-elim}
+use mathlib.Core.Bool.{Bool, true, false}
+use mathlib.Core.List.{List, [], _∷_, _++_, append-nil}
 use native.Mathlib.Omega.{arith}
 use lib.Dec.{eqb}
 use lib.IntN.{ℤ, pos}
 use lib.ListN.{length, getD, set, replicate, length-set, length-replicate}
-use lib.Seq.{getD-set-same, getD-set-other}
+use lib.Seq.{getD-set-same, getD-set-other, ext-getD}
 use borrow.Author.Tests.{eqb-true, eqb-false}
 use Rattle.rules.specs.Field.{addressOf}
 use Rattle.rules.specs.Sound.{mark, next, FreePath, times, FreeList}
+use Rattle.rules.proofs.Answers.{is, isn't}
 use Rattle.rules.proofs.Tables.{eqb-self}
 use Rattle.rules.proofs.Positions.{zeros-at}
-use Rattle.checks.specs.Walk.{Met, Walked, AllMet, zeros}
+use Rattle.checks.specs.Walk.{Met, Stopped, Walked, AllMet, zeros}
 
 times-append : (b : ℕ) (l m : List ℕ) → times b (l ++ m) ≡ times b l + times b m
 times-append b [] m = omega arith
@@ -36,6 +38,17 @@ module _ (n : ℕ) (ks : List ℕ) (vs : List ℤ) where
   rest from (x ∷ l) at (y ∷ m) c d =
       let r = rest (next n vs from) l at m (c .1 .1 .1) (d .1 .1 .1) in
       (r .0, (rw (c .0, d .0) (ap (λ (t : List ℕ). from ∷ t) (r .1 .0)), r .1 .1))
+
+  -- of two walks from one address one goes on from where the other has come
+  along : (from : ℕ) (l : List ℕ) (at : ℕ) (m : List ℕ) (to : ℕ) → FreePath n ks vs from l at → FreePath n ks vs from m to
+      → ((r : List ℕ) × ((m ≡ l ++ r) × FreePath n ks vs at r to)) ⊎ ((r : List ℕ) × ((l ≡ m ++ r) × FreePath n ks vs to r at))
+  along from [] at m to c d = inl (m, (refl, rw c at d))
+  along from (x ∷ l) at [] to c d = inr (x ∷ l, (refl, rw d at c))
+  along from (x ∷ l) at (y ∷ m) to c d =
+      ⊎-elim
+      (λ q. inl (q .0, (rw (c .0, d .0) (ap (λ (t : List ℕ). from ∷ t) (q .1 .0)), q .1 .1)))
+      (λ q. inr (q .0, (rw (c .0, d .0) (ap (λ (t : List ℕ). from ∷ t) (q .1 .0)), q .1 .1)))
+      (along (next n vs from) l at m to (c .1 .1 .1) (d .1 .1 .1))
 
   module _ (first : ℕ) where
     pub start : (work : List ℕ) → work ≡ replicate n 0 → Met n ks vs first first work
@@ -77,19 +90,14 @@ module _ (n : ℕ) (ks : List ℕ) (vs : List ℤ) where
       stands [] c d = absurd (d c)
       stands (x ∷ r) c d = (c .1 .0, (c .1 .1 .0, rw (c .0, eqb-self at) (omega arith)))
 
-      pub not-free : (at ≡ n → ⊥) → (mark ks at ≡ 3 → ⊥) → ⊥
-      not-free d k = k (stands (R .0) (R .1 .1) d .1 .0)
-
-      pub not-there : (at ≡ n → ⊥) → n ≤ at → ⊥
-      not-there d h = let s = stands (R .0) (R .1 .1) d .0 in omega arith
-
-      pub not-twice : at < n → (getD work at 0 ≡ 0 → ⊥) → ⊥
-      not-twice h k =
-          let s = stands (R .0) (R .1 .1) (λ e. omega arith) in
-          let o = rw (R .1 .0, times-append at (m .list) (R .0)) at (F .once at h (s .1 .0)) in
+      -- one that cannot go on there has come to n
+      stuck : Stopped n ks at work → (at ≡ n → ⊥) → ⊥
+      stuck k d =
+          let s = stands (R .0) (R .1 .1) d in
+          let o = rw (R .1 .0, times-append at (m .list) (R .0)) at (F .once at (s .0) (s .1 .0)) in
           let w = m .marks at in
           let z : times at (m .list) ≡ 0 = omega (arith, s .1 .1) in
-          k (w ∙ z)
+          k (s .0) (s .1 .0) (w ∙ z)
 
     pub met-frees : (work : List ℕ) → Met n ks vs first n work → AllMet n ks work → FreeList n ks vs first
     met-frees work m a = record { list = m .list; path = m .path; once = λ b h k. let d = a b h k in one (times b (m .list)) (m .single b) (λ z. d (m .marks b ∙ z)) }
@@ -117,7 +125,37 @@ module _ (n : ℕ) (ks : List ℕ) (vs : List ℤ) where
     turned at work m h k z y b t e = rw (e, b) (turn at work m h k z)
 
     pub walked : (work : List ℕ) → Met n ks vs first n work → Walked true n ks vs first work
-    walked work m = record { yes = λ e. m; no = λ e. absurd (true≢false e) }
+    walked work m = record { to = n; met = m; stopped = λ h. absurd (omega arith); answer = is refl }
 
-    pub refused : (work : List ℕ) → (FreeList n ks vs first → ⊥) → Walked false n ks vs first work
-    refused work d = record { yes = λ e. absurd (false≢true e); no = λ e. d }
+    pub refused : (at : ℕ) (work : List ℕ) → Met n ks vs first at work → Stopped n ks at work → (at ≡ n → ⊥) → Walked false n ks vs first work
+    refused at work m k d = record { to = at; met = m; stopped = k; answer = isn't d }
+
+    -- ---- for callers: what a walk's answer says of the free list
+
+    pub came : {r : Bool} {work : List ℕ} → Walked r n ks vs first work → r ≡ true → Met n ks vs first n work
+    came W e = rw (W .answer .yes e) at (W .met)
+
+    pub no-list : {r : Bool} {work : List ℕ} → Walked r n ks vs first work → r ≡ false → FreeList n ks vs first → ⊥
+    no-list {work = work} W e F = stuck (W .to) work (W .met) F (W .stopped) (W .answer .no e)
+
+    -- ---- a walk leaves one row
+
+    -- one that cannot go on is as long as any
+    longest : {at to : ℕ} {work work′ : List ℕ} (m : Met n ks vs first at work) → Stopped n ks at work → (k : Met n ks vs first to work′) (r : List ℕ)
+        → k .list ≡ m .list ++ r → FreePath n ks vs at r to → k .list ≡ m .list
+    longest m s k [] e c = e ∙ append-nil (m .list)
+    longest {at} m s k (x ∷ r) e c =
+        let o = rw (e, times-append at (m .list) (x ∷ r), c .0, eqb-self at) at (k .single at) in
+        let w = m .marks at in
+        absurd (s (c .1 .0) (c .1 .1 .0) (omega arith))
+
+    pub walked-unique : {r r′ : Bool} {work work′ : List ℕ} → Walked r n ks vs first work → Walked r′ n ks vs first work′ → work ≡ work′
+    walked-unique {work = work} {work′ = work′} W X =
+        ext-getD 0 work work′ (W .met .long ∙ sym (X .met .long)) (λ i h. W .met .marks i ∙ ap (times i) lists ∙ sym (X .met .marks i))
+      where
+        lists : W .met .list ≡ X .met .list
+        lists =
+            ⊎-elim
+            (λ q. sym (longest (W .met) (W .stopped) (X .met) (q .0) (q .1 .0) (q .1 .1)))
+            (λ q. longest (X .met) (X .stopped) (W .met) (q .0) (q .1 .0) (q .1 .1))
+            (along first (W .met .list) (W .to) (X .met .list) (X .to) (W .met .path) (X .met .path))

@@ -1,7 +1,7 @@
 use borrow.Author.Needs.{needs}
 use borrow.Author.Tests.{not-true, not-false}
 use Rattle.rules.proofs.Answers.{isn't, same}
-use Rattle.checks.proofs.Walks.{met-frees, frees-met}
+use Rattle.checks.proofs.Walks.{came, no-list, met-frees, frees-met}
 use Rattle.audit.proofs.frees_sound.Statement.{statement}
 use Rattle.audit.proofs.frees_sound.Tie as tie
 
@@ -20,7 +20,7 @@ same-length c = search needs
 returns : tie.Need-returns
 returns c =
     let walked : tie.After-walk = search needs in
-    isn't (walked .walk .ensures .no (not-true _ (c .if1 .taken)))
+    isn't (no-list _ _ _ _ (walked .walk .ensures) (not-true _ (c .if1 .taken)))
 
 all-met-requires : tie.Need-all-met-requires
 all-met-requires c κs = search needs
@@ -31,8 +31,8 @@ same-length-2 c = search needs
 returns-2 : tie.Need-returns-2
 returns-2 c =
     let walked : tie.After-walk = search needs in
-    let came : tie.Else1 = search needs in
-    let m = walked .walk .ensures .yes (not-false _ (came .if1 .left)) in
+    let yes : tie.Else1 = search needs in
+    let m = came _ _ _ _ (walked .walk .ensures) (not-false _ (yes .if1 .left)) in
     same (met-frees _ _ _ _ _ m) (frees-met _ _ _ _ _ m) (c .all-met .ensures)
 
 pub frees-sound-spec : {M : Type 1} → statement M

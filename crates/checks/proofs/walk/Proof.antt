@@ -4,7 +4,7 @@ use mathlib.Core.Path.{_≡_}
 use lib.ListN.{length, length-replicate}
 use Rattle.checks.specs.Walk.{Met, zeros}
 use Rattle.cells.proofs.Signed.{back}
-use Rattle.checks.proofs.Walks.{start, turned, zeros-less, not-free, not-there, not-twice, walked, refused}
+use Rattle.checks.proofs.Walks.{start, turned, zeros-less, walked, refused}
 use Rattle.checks.proofs.walk.Statement.{statement}
 use Rattle.checks.proofs.walk.Tie as tie
 
@@ -30,7 +30,7 @@ returns : tie.Need-returns Inv-loop μ-loop
 returns c =
     let l = c .before .before .before .loop in
     let t = c .before .before .loop-test .taken in
-    refused _ _ _ _ _ (λ F. not-free _ _ _ _ _ _ (l .inv .1) F (λ e. omega arith) (c .if1 .taken))
+    refused _ _ _ _ _ _ (l .inv .1) (λ h k z. c .if1 .taken k) (λ e. omega arith)
 
 mul-if2 : tie.Need-mul-if2 Inv-loop μ-loop
 mul-if2 c = omega arith
@@ -44,7 +44,8 @@ same-length-2 c = omega arith
 returns-2 : tie.Need-returns-2 Inv-loop μ-loop
 returns-2 c =
     let l = c .before .before .before .before .before .loop in
-    refused _ _ _ _ _ (λ F. not-twice _ _ _ _ _ _ (l .inv .1) F (c .before .before .before .before .loop-test .taken) (c .if2 .taken))
+    let t = c .before .before .before .before .loop-test .taken in
+    refused _ _ _ _ _ _ (l .inv .1) (λ h k z. c .if2 .taken z) (λ e. omega arith)
 
 mul-work : tie.Need-mul-work Inv-loop μ-loop
 mul-work c = omega arith
@@ -84,7 +85,9 @@ same-length-3 : tie.Need-same-length-3 Inv-loop μ-loop
 same-length-3 c = omega arith
 
 returns-3 : tie.Need-returns-3 Inv-loop μ-loop
-returns-3 c = refused _ _ _ _ _ (λ F. not-there _ _ _ _ _ _ (c .before .before .loop .inv .1) F (c .if3 .taken) (c .before .loop-test .left))
+returns-3 c =
+    let t = c .before .loop-test .left in
+    refused _ _ _ _ _ _ (c .before .before .loop .inv .1) (λ h k z. omega arith) (c .if3 .taken)
 
 same-length-4 : tie.Need-same-length-4 Inv-loop μ-loop
 same-length-4 c = omega arith
