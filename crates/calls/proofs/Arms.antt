@@ -65,45 +65,48 @@ makes-one : (o : Option ℕ) → want (isHeld o) 11 ≡ 0 → length (makes o) �
 makes-one none e = absurd (omega arith)
 makes-one (some a) e = refl
 
-module _ {n : ℕ} {r : CallRows} {st : State} where
-  pub can-take : {v : ℕ} → Able n (New v) r st → Takeable n v r st
-  can-take A =
-      let l = cell-lengths (A .shown .cells) in
-      record { most = A .most; within = A .within; kinds-long = l .0; values-long = l .1; v-below = A .fits; room = A .room }
+pub shown-of : {s : Sizes} {r : Lent} {st : State} {h : Heap} → Whole s r st h → Shown (s .n) (r .kinds) (r .values) (r .variables) (h .shape)
+shown-of W = record { cells = W .rows .cells; held = record { are = W .variables-are; inside = W .held-inside } }
 
-  pub can-reach : {c : Call} (v f : ℕ) → Able n c r st → v < length (r .variables) → f < 2 → Reach n (r .kinds) (r .values) (r .variables) v f
+module _ {s : Sizes} {r : CallRows} {st : State} where
+  pub can-take : {v : ℕ} → Able s (New v) r st → Takeable (s .n) v r st
+  can-take A =
+      let l = cell-lengths (A .whole .rows .cells) in
+      record { most = A .whole .rows .most; within = A .whole .rows .within; kinds-long = l .0; values-long = l .1; v-below = A .fits; room = A .room }
+
+  pub can-reach : {c : Call} (v f : ℕ) → Able s c r st → v < length (r .variables) → f < 2 → Reach (s .n) (r .kinds) (r .values) (r .variables) v f
   can-reach v f A p q =
-      let l = cell-lengths (A .shown .cells) in
+      let l = cell-lengths (A .whole .rows .cells) in
       record { kinds-long = l .0; values-long = l .1; v-below = p; f-below = q }
 
-  pub can-link : {v f w : ℕ} → Able n (Do (Link v f w)) r st → Linkable n v f w r (st .len)
+  pub can-link : {v f w : ℕ} → Able s (Do (Link v f w)) r st → Linkable (s .n) v f w r (st .len)
   unfolding refuses logs
   can-link {v} {f} {w} A =
-      let t = two-11 (isHeld (var (A .shape) v)) (isHeld (var (A .shape) w)) (A .right) in
+      let t = two-11 (isHeld (var (A .heap .shape) v)) (isHeld (var (A .heap .shape) w)) (A .right) in
       let r = A .room in
-      let a = length-append (drops (at (A .shape) v f)) (makes (var (A .shape) w)) in
-      let o = makes-one (var (A .shape) w) (t .1) in
+      let a = length-append (drops (at (A .heap .shape) v f)) (makes (var (A .heap .shape) w)) in
+      let o = makes-one (var (A .heap .shape) w) (t .1) in
       record {
-        most = A .most;
-        shape = A .shape;
-        shown = A .shown;
+        most = A .whole .rows .most;
+        shape = A .heap .shape;
+        shown = shown-of (A .whole);
         v-below = A .fits .0;
         f-below = A .fits .1;
         w-below = A .fits .2;
         holding = t .0;
         held-w = t .1;
-        list = A .list;
-        logged = A .logged;
+        list = A .heap .log;
+        logged = A .whole .logged;
         room = omega arith;
       }
 
-  pub can-put : {v f : ℕ} {x : ℤ} (y : ℤ) → Able n (Do (Put v f x)) r st → Writable n v f (Figure y) r (st .len)
+  pub can-put : {v f : ℕ} {x : ℤ} (y : ℤ) → Able s (Do (Put v f x)) r st → Writable (s .n) v f (Figure y) r (st .len)
   unfolding refuses logs
   can-put y A =
       record {
-        most = A .most;
-        shape = A .shape;
-        shown = A .shown;
+        most = A .whole .rows .most;
+        shape = A .heap .shape;
+        shown = shown-of (A .whole);
         v-below = A .fits .0;
         f-below = A .fits .1;
         holding = A .right;
@@ -111,13 +114,13 @@ module _ {n : ℕ} {r : CallRows} {st : State} where
         room = A .room;
       }
 
-  pub can-blank : {v f : ℕ} → Able n (Do (Blank v f)) r st → Writable n v f Nothing r (st .len)
+  pub can-blank : {v f : ℕ} → Able s (Do (Blank v f)) r st → Writable (s .n) v f Nothing r (st .len)
   unfolding refuses logs
   can-blank A =
       record {
-        most = A .most;
-        shape = A .shape;
-        shown = A .shown;
+        most = A .whole .rows .most;
+        shape = A .heap .shape;
+        shown = shown-of (A .whole);
         v-below = A .fits .0;
         f-below = A .fits .1;
         holding = A .right;
@@ -127,24 +130,10 @@ module _ {n : ℕ} {r : CallRows} {st : State} where
 
 -- ---- what it leaves
 
-pub shown-of : {s : Sizes} {r : Lent} {st : State} {h : Heap} → Whole s r st h → Shown (s .n) (r .kinds) (r .values) (r .variables) (h .shape)
-shown-of W = record { cells = W .rows .cells; held = record { are = W .variables-are; inside = W .held-inside } }
-
 module _ {s : Sizes} {r : CallRows} {st : State} {t : TableRows} {work : List ℕ} {h : Heap} (W : Whole s (beside t work r) st h) where
   -- what a caller has at hand is all that a call needs
-  pub able : (c : Call) → Fits (length (r .variables)) c → check c (h .shape) ≡ 0 → 2 * (st .len + needs c (h .shape)) ≤ length (r .log) → Able (s .n) c r st
-  able c k q m =
-      record {
-        most = W .rows .most;
-        within = W .rows .within;
-        shape = h .shape;
-        shown = shown-of W;
-        fits = k;
-        right = q;
-        list = h .log;
-        logged = W .logged;
-        room = m;
-      }
+  pub able : (c : Call) → Fits (length (r .variables)) c → check c (h .shape) ≡ 0 → 2 * (st .len + needs c (h .shape)) ≤ length (r .log) → Able s c r st
+  able c k q m = record { tables = t; work = work; heap = h; whole = W; fits = k; right = q; room = m }
 
   deed-did : {r′ : CallRows} {w : Worked} {len : ℕ} {x : ℤ} (d : Deed) → w ≡ worked (logging st len) x → Shown (s .n) (r′ .kinds) (r′ .values) (r′ .variables) (act d (h .shape))
       → Logged (s .n) (r′ .log) len (h .log ++ logs d (h .shape)) → length (r′ .log) ≡ length (r .log) → x ≡ value d (h .shape) → Did s (beside t work r′) (doDeed d h) w

@@ -88,14 +88,12 @@ pub record Takeable (n v : ℕ) (r : CallRows) (st : State) : Type 0 where
   pub v-below : v < length (r .variables)
   pub room : 2 * (st .len + 1) ≤ length (r .log)
 
--- the call can be done: it was not refused, and there is room in the log
-pub record Able (n : ℕ) (c : Call) (r : CallRows) (st : State) : Type 0 where
-  pub most : n ≤ 1024
-  pub within : st .first ≤ n
-  pub shape : Shape
-  pub shown : Shown n (r .kinds) (r .values) (r .variables) shape
+-- the call can be done: with some tables' rows and a work row the rows are some heap; it is not refused there, and there is room in the log
+pub record Able (s : Sizes) (c : Call) (r : CallRows) (st : State) : Type 0 where
+  pub tables : TableRows
+  pub work : List ℕ
+  pub heap : Heap
+  pub whole : Whole s (beside tables work r) st heap
   pub fits : Fits (length (r .variables)) c
-  pub right : check c shape ≡ 0
-  pub list : List Transaction
-  pub logged : Logged n (r .log) (st .len) list
-  pub room : 2 * (st .len + needs c shape) ≤ length (r .log)
+  pub right : check c (heap .shape) ≡ 0
+  pub room : 2 * (st .len + needs c (heap .shape)) ≤ length (r .log)

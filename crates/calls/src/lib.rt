@@ -234,7 +234,7 @@ fn do_deed(
     sizes: Sizes,
     at: State,
 ) -> Worked
-    requires { ⌜ Able (sizes .n) (Do deed) (callNow kinds values variables log) at ⌝ }
+    requires { ⌜ Able sizes (Do deed) (callNow kinds values variables log) at ⌝ }
     ensures { λ r. ⌜ Does sizes (doDeed deed) (callEntries kinds values variables log) at (callExits kinds values variables log) r ⌝ }
 {
     let n = sizes.n;
@@ -272,7 +272,7 @@ pub fn act(
     at: State,
     freed: usize,
 ) -> Worked
-    requires { ⌜ Able (sizes .n) call (callNow kinds values variables log) at × (freed ≤ 1024) ⌝ }
+    requires { ⌜ Able sizes call (callNow kinds values variables log) at × (freed ≤ 1024) ⌝ }
     ensures { λ r. ⌜ Does sizes (acted sizes call freed) (callEntries kinds values variables log) at (callExits kinds values variables log) r ⌝ }
 {
     match call {

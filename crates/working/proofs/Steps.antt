@@ -125,7 +125,7 @@ module _ {s : Sizes} {r : Lent} {at : State} (c : Call) {no k : ℕ} (checked : 
   room : RoomMade make s (counted c h) r at h r′ o
   room = made h (S .whole)
 
-  pub able-now : Able (s .n) c (record { kinds = r′ .kinds; values = r′ .values; variables = r′ .variables; log = r′ .log }) o × (o .freed - at .freed ≤ 1024)
+  pub able-now : Able s c (record { kinds = r′ .kinds; values = r′ .values; variables = r′ .variables; log = r′ .log }) o × (o .freed - at .freed ≤ 1024)
   unfolding settledHeap
   able-now =
       let W = room .whole in

@@ -13,7 +13,7 @@ copy-requires c κs =
     let s : tie.Start = search needs in
     let d : tie.After-deed = search needs in
     let k = rw (d .deed .given .1) at (s .pre .fits) in
-    (k .0, (k .1, s .pre .most))
+    (k .0, (k .1, s .pre .whole .rows .most))
 
 done-requires : tie.Need-done-requires
 done-requires c κs = search needs
@@ -25,7 +25,7 @@ let-go-requires : tie.Need-let-go-requires
 let-go-requires c κs =
     let s : tie.Start = search needs in
     let d : tie.After-deed2 = search needs in
-    (rw (d .deed2 .given .1) at (s .pre .fits), s .pre .most)
+    (rw (d .deed2 .given .1) at (s .pre .fits), s .pre .whole .rows .most)
 
 done-requires-2 : tie.Need-done-requires-2
 done-requires-2 c κs = search needs
@@ -74,7 +74,7 @@ follow-requires c κs =
     let s : tie.Start = search needs in
     let d : tie.After-deed6 = search needs in
     let k = rw (d .deed6 .given .1) at (s .pre .fits) in
-    (can-reach _ _ (s .pre) (k .0) (k .1), (k .2, s .pre .most))
+    (can-reach _ _ (s .pre) (k .0) (k .1), (k .2, s .pre .whole .rows .most))
 
 done-requires-6 : tie.Need-done-requires-6
 done-requires-6 c κs = search needs
