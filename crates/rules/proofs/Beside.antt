@@ -6,23 +6,27 @@ use mathlib.Core.List.{List, [], _∷_, _++_, append-assoc}
 use lib.IntN.{ℤ, pos}
 use lib.ListN.{length, drop}
 use Rattle.rules.specs.declared.Head.{Head}
+use Rattle.rules.specs.declared.Deed.{Deed}
 use Rattle.rules.specs.declared.Call.{Call}
+use Rattle.rules.specs.declared.Call.the-variants.{New, Do, Settle}
 use Rattle.rules.specs.declared.Sizes.{Sizes}
 use Rattle.rules.specs.Heap.{Heap}
 use Rattle.rules.specs.Settle.{settled}
-use Rattle.rules.specs.Call.{AllFit}
-use Rattle.rules.specs.Step.{Result, step, calls, unfreed, batch}
+use Rattle.rules.specs.Call.{AllFit, refuses, value}
+use Rattle.rules.specs.Step.{Stepped, Result, step, calls, unfreed, batch}
 use Rattle.rules.specs.Rows.{Lent, rowsOf, headOf, heapOf}
 use Rattle.rules.specs.Sound.{Sound, Sized}
 use Rattle.rules.specs.Refusals.{Batched, outcome, cleared, leavesWith, answerWords, answered, accepted}
 use Rattle.rules.specs.Run.{said}
 use Rattle.rules.specs.Invariant.{Inv, Ended}
 use Rattle.rules.specs.Moment.{heapAfter, moment}
-use Rattle.rules.specs.Demands.{statusAt, valueAt, SameBut}
+use Rattle.rules.specs.Demands.{statusAt, valueAt, SameBut, DeedSays}
 use Rattle.rules.proofs.Step.{counted-from-0, settled-idle}
-use Rattle.rules.proofs.Roundtrip.{rows-of-heap, head-of-heap}
+use Rattle.rules.proofs.Roundtrip.{heap-of-rows, rows-of-heap, head-of-heap}
 use Rattle.rules.proofs.Facts.{Fourteen, call-refused}
-use Rattle.rules.proofs.Inside.{calls-end, calls-after, after-both, status-at, value-at, said-alone, said-first, said-from, after-inv, pos-same}
+use Rattle.rules.proofs.Inside.{calls-end, calls-after, after-both, status-at, value-at, said-alone, said-first, said-from, after-inv, refuses-settled, value-settled, deed-value, deed-status, pos-same}
+use Rattle.rules.proofs.LetGo.{as-settle, settle-value}
+use Rattle.rules.proofs.Calls.{fit-parts}
 use Rattle.rules.proofs.Entry.{entry-ended}
 
 -- ---- the moment
@@ -114,17 +118,61 @@ module _ (h : Head) (r : Lent) (cs ds : List Call) where
         after = said-after us row ∙ ap (λ (o : Result). said ds (answerWords (o .answers) ++ [])) e ∙ sym (said-after vs row′);
       }
 
+-- the moment after one more call, or none
+module _ (h : Head) (r : Lent) (cs : List Call) where
+  pub then-call : (c : Call) → moment h r (cs ++ c ∷ []) ≡ step (h .sizes) c (moment h r cs) .heap
+  unfolding heapAfter
+  then-call c = after-both (h .sizes) cs (c ∷ []) (unfreed (heapOf h r))
+
+  pub then-none : moment h r (cs ++ []) ≡ moment h r cs
+  unfolding heapAfter
+  then-none = after-both (h .sizes) cs [] (unfreed (heapOf h r))
+
+-- ---- a new answered 14 is as the call settle
+
+module _ {h : Head} {r : Lent} (Z : Sized h r) (S : Sound h r) (cs : List Call) (F : AllFit (h .sizes .m) cs) (ds : List Call) (v : ℕ) (row row′ : List ℤ) where
+  pub as-settled : statusAt (accepted h r (cs ++ New v ∷ ds) row) cs ≡ pos 14
+      → SameBut cs (New v ∷ []) (Settle ∷ []) ds (accepted h r (cs ++ New v ∷ ds) row) (accepted h r (cs ++ Settle ∷ ds) row′) × (valueAt (accepted h r (cs ++ Settle ∷ ds) row′) cs ≡ pos 0)
+  as-settled e =
+      let s = h .sizes in
+      let I = moment-inv Z S cs F in
+      let w = pos-same _ _ (sym (status-there h r cs ds (New v) row) ∙ e) in
+      let a = ap (λ (o : Stepped). o .heap) (as-settle s (Z .within .limits) v (moment h r cs) I w) in (
+        same-but h r cs ds (New v ∷ []) (Settle ∷ []) row row′ (ap (calls s ds) (then-call h r cs (New v) ∙ a ∙ sym (then-call h r cs Settle))),
+        value-there h r cs ds Settle row′ ∙ settle-value s (Z .within .limits) v (moment h r cs) I w,
+      )
+
+-- ---- a deed, by what the calls before it leave
+
+module _ {h : Head} {r : Lent} (Z : Sized h r) (S : Sound h r) (cs ds : List Call) (d : Deed) (F : AllFit (h .sizes .m) (cs ++ Do d ∷ ds)) (row row′ : List ℤ) where
+  shape-left : heapOf (accepted h r cs row′ .outcome .head) (accepted h r cs row′ .rows) .shape ≡ settled (h .sizes) (moment h r cs) .shape
+  unfolding accepted
+  shape-left = rw (end-there h r cs) (ap (λ (x : Heap). x .shape) (heap-of-rows (h .sizes) (settled (h .sizes) (moment h r cs))))
+
+  pub deed-says : DeedSays d (heapOf (accepted h r cs row′ .outcome .head) (accepted h r cs row′ .rows) .shape) (statusAt (accepted h r (cs ++ Do d ∷ ds) row) cs) (valueAt (accepted h r (cs ++ Do d ∷ ds) row) cs)
+  deed-says =
+      let s = h .sizes in
+      let ok = Z .within .limits in
+      let m = moment h r cs in
+      let p = fit-parts (s .m) cs (Do d ∷ ds) F in
+      let I = moment-inv Z S cs (p .0) in
+      let e = ap (refuses d) shape-left ∙ refuses-settled s ok m I d (p .1 .0) in
+      record {
+        refused-for = status-there h r cs ds (Do d) row ∙ ap pos (deed-status s d m ∙ sym e);
+        value-is = λ z.
+            value-there h r cs ds (Do d) row ∙ deed-value s ok m I d (p .1 .0) (sym e ∙ z) ∙ sym (ap (value d) shape-left ∙ value-settled s ok m I d (p .1 .0));
+      }
+
 -- ---- a call that is refused, but not with 14, is as left out
 
 module _ (h : Head) (r : Lent) (cs ds : List Call) (x : Call) (k : ℕ) (row row′ : List ℤ) where
   pub left-out : statusAt (accepted h r (cs ++ x ∷ ds) row) cs ≡ pos (suc k) → (suc k ≡ 14 → ⊥) → SameBut cs (x ∷ []) [] ds (accepted h r (cs ++ x ∷ ds) row) (accepted h r (cs ++ ds) row′)
-  unfolding heapAfter
   left-out e n =
       let s = h .sizes in
       let m = moment h r cs in
       let q = call-refused s x m k (pos-same _ _ (sym (status-there h r cs ds x row) ∙ e)) .1 in
       same-but h r cs ds (x ∷ []) [] row row′
-      (ap (calls s ds) (after-both s cs (x ∷ []) (unfreed (heapOf h r)) ∙ same q ∙ sym (after-both s cs [] (unfreed (heapOf h r)))))
+      (ap (calls s ds) (then-call h r cs x ∙ same q ∙ sym (then-none h r cs)))
     where
       same : {A : Type 0} → (A × (step (h .sizes) x (moment h r cs) .heap ≡ moment h r cs)) ⊎ Fourteen (h .sizes) x (moment h r cs) (suc k) (step (h .sizes) x (moment h r cs)) → step (h .sizes) x (moment h r cs) .heap ≡ moment h r cs
       same (inl p) = p .1

@@ -13,7 +13,7 @@ use borrow.Author.Tests.{leb-true, leb-false}
 use Rattle.rules.specs.declared.Head.{Head}
 use Rattle.rules.specs.declared.Deed.the-variants.{Read}
 use Rattle.rules.specs.declared.Call.{Call}
-use Rattle.rules.specs.declared.Call.the-variants.{Do}
+use Rattle.rules.specs.declared.Call.the-variants.{New, Do, Settle}
 use Rattle.rules.specs.declared.Sizes.{Sizes}
 use Rattle.rules.specs.Head.{freshHead, zeroHead}
 use Rattle.rules.specs.Heap.{Heap}
@@ -27,7 +27,7 @@ use Rattle.rules.specs.Moment.{moment}
 use Rattle.rules.specs.Demands.{Asks, Accepted, statusAt, Callable, TooShort, Exactly, AllListed, ReadSays, BatchRefuses, CallRefused, Demand1}
 use Rattle.rules.proofs.Calls.{calls-in-fit, fit-parts}
 use Rattle.rules.proofs.Inside.{all-listed, read-after}
-use Rattle.rules.proofs.Beside.{moment-inv, end-there, status-there, idle-left, same-as, left-out}
+use Rattle.rules.proofs.Beside.{moment-inv, end-there, status-there, idle-left, same-as, as-settled, deed-says, left-out}
 use Rattle.rules.proofs.Tests.{sized-true, sized-false, true-sized, false-sized, sound-true, sound-false, true-sound, false-sound}
 
 -- the five ways of a batch
@@ -299,6 +299,15 @@ module _ (h : Head) (r : Lent) (b c : Batch) where
             let t = took h r b (cs ++ x ∷ ds) d a in
             let u = took h r c (cs ++ ds) e a′ in
             same-as (t .left) (u .left) (left-out h r cs ds x k (b .answers) (c .answers) (rw (t .left) at o) n);
+        fourteen-settles = λ cs ds v d e a a′ o.
+            let t = took h r b (cs ++ New v ∷ ds) d a in
+            let u = took h r c (cs ++ Settle ∷ ds) e a′ in
+            let S = as-settled (t .sized) (t .sound) cs (fit-parts (h .sizes .m) cs (New v ∷ ds) (t .fit) .0) ds v (b .answers) (c .answers) (rw (t .left) at o) in
+            (same-as (t .left) (u .left) (S .0), rw (u .left) (S .1));
+        deed-answered = λ cs ds x d e a a′.
+            let t = took h r b (cs ++ Do x ∷ ds) d a in
+            let u = took h r c cs e a′ in
+            rw (t .left, u .left) (deed-says (t .sized) (t .sound) cs ds x (t .fit) (b .answers) (c .answers));
         fifteen-exactly = λ cs ds v f d e a a′.
             let t = took h r b (cs ++ Do (Read v f) ∷ ds) d a in
             let u = took h r c cs e a′ in

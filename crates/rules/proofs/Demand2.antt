@@ -18,33 +18,34 @@ use Rattle.rules.specs.declared.Deed.the-variants.{Clear}
 use Rattle.rules.specs.declared.Call.the-variants.{New, Do, Settle}
 use Rattle.rules.specs.declared.Sizes.{Sizes}
 use Rattle.rules.specs.Head.{Limits}
-use Rattle.rules.specs.Field.{kindOf, valueOf, variableOf}
+use Rattle.rules.specs.Field.{kindOf, valueOf, fieldOf, variableOf}
+use Rattle.rules.specs.Table.{countIn}
 use Rattle.rules.specs.Heap.{Heap, place, field}
-use Rattle.rules.specs.Settle.{settled}
+use Rattle.rules.specs.Settle.{replayed, settled}
 use Rattle.rules.specs.Call.{Answer, AllFit, var, hold}
 use Rattle.rules.specs.Step.{Stepped, Result, full, noneFree, wants, counted, settledIf, settledFor, takeCell, doNew, acted, run, step, calls, unfreed, batch}
 use Rattle.rules.specs.Rows.{Lent, rowsOf, headOf, heapOf}
 use Rattle.rules.specs.Sound.{Sound, Sized, mark, Live, heldAmong, times}
 use Rattle.rules.specs.Refusals.{Batched, answerWords, answered, accepted, auditOf, isSound}
 use Rattle.rules.specs.Run.{ours, Batch, handIn, said, NotSettle}
-use Rattle.rules.specs.Invariant.{live, lives, Inv, Ended}
+use Rattle.rules.specs.Invariant.{live, view, lives, Inv, Ended}
 use Rattle.rules.specs.Moment.{heapAfter, moment, SettlesRight, livesIn, freedIn, PointsToItself}
-use Rattle.rules.specs.Demands.{statusAt, valueAt, SameBut, FreesExactly, AtCap, handedOut, freeCells, HoldsBlank, BatchSettles, BatchesSettle, SettleEnds, EndsThere, Demand2}
+use Rattle.rules.specs.Demands.{Asks, statusAt, valueAt, SameBut, FreesExactly, AtCap, handedOut, freeCells, HoldsBlank, BatchSettles, BatchesSettle, SettleEnds, EndsThere, Demand2}
 use Rattle.rules.proofs.Tests.{sound-true, sound-false}
 use Rattle.rules.proofs.Cells.{live-below}
 use Rattle.rules.proofs.Calls.{holds-var, fit-parts}
-use Rattle.rules.proofs.Step.{settled-inv, settled-done, settle-sound, step-inv, counted-from-0}
+use Rattle.rules.proofs.Step.{settledBy-variables, settled-inv, settle-sound, step-inv, counted-from-0}
 use Rattle.rules.proofs.Positions.{live-at, dead-at, free-at, kind-at, word-at}
-use Rattle.rules.proofs.Roundtrip.{fields-back, rows-of-heap, batch-of-ended}
+use Rattle.rules.proofs.Roundtrip.{field-back, fields-back, rows-of-heap, batch-of-ended}
 use Rattle.rules.proofs.Whole.{twice}
 use Rattle.rules.proofs.Entry.{entry-ended, exit-ended, exit-sized, exit-sound}
 use Rattle.rules.proofs.Demand1.{took, took-some, answers-long, audit-0, audit-4}
 use Rattle.rules.proofs.Facts as facts
 use Rattle.rules.proofs.Inside.{after-both, held-fields, var-settled, row-variable, said-alone, pos-same}
-use Rattle.rules.proofs.Beside.{moment-inv, heap-there, end-there, status-there, value-there, same-as, same-but, said-own, said-before, said-after}
-use Rattle.rules.proofs.LetGo.{after-clear, fourteen-cleared, kept-settled, as-settle, settle-value}
+use Rattle.rules.proofs.Beside.{moment-inv, heap-there, end-there, status-there, value-there, same-as, same-but, then-call, then-none, said-own, said-before, said-after}
+use Rattle.rules.proofs.LetGo.{after-clear, fourteen-cleared, kept-settled}
 use Rattle.rules.proofs.Settles.{calls-on, settle-step, as-settled-before, calls-freed}
-use Rattle.rules.proofs.Stays.{cap-stays, ring-settled}
+use Rattle.rules.proofs.Stays.{rows-capped, capped-rows, cap-stays, ring-settled}
 
 -- ---- free cells and cells in use
 
@@ -119,42 +120,6 @@ marked-dead n fs len a e = go (live fs a) refl
     go true l = absurd (live-at n fs len a l .used e)
     go false l = l
 
--- ---- a batch of one new
-
-module _ {h : Head} {r : Lent} (Z : Sized h r) (S : Sound h r) (v : ℕ) (fit : AllFit (h .sizes .m) (New v ∷ [])) (row : List ℤ) where
-  new-status : getD (accepted h r (New v ∷ []) row .answers) 0 (negsuc 0) ≡ pos (step (h .sizes) (New v) (heapOf h r) .answer .status)
-  unfolding accepted answered batch calls heapOf
-  new-status = refl
-
-  module _ (some-free : h .free < h .sizes .n) where
-    -- no settle is needed: the log is empty, and a cell is free
-    new-taken : step (h .sizes) (New v) (heapOf h r) ≡ record { heap = takeCell v (heapOf h r); answer = record { status = 0; value = pos 0 } }
-    unfolding step run acted doNew wants settledIf full noneFree heapOf
-    new-taken =
-        let l : 1 ≤ h .sizes .l = let e = Z .within .limits .l-least in omega arith in
-        let n : h .free ≡ h .sizes .n → ⊥ = λ e. omega arith in
-        rw (le-ltb (h .sizes .l) 1 l, ne-eqb (h .free) (h .sizes .n) n, ne-eqb (h .free) (h .sizes .n) n)
-
-    new-heap : batch (h .sizes) (New v ∷ []) (heapOf h r) .heap ≡ settled (h .sizes) (takeCell v (heapOf h r))
-    unfolding batch calls heapOf
-    new-heap = ap (λ (o : Stepped). settled (h .sizes) (o .heap)) new-taken
-
-    new-holds : getD (batch (h .sizes) (New v ∷ []) (heapOf h r) .heap .shape .variables) v none ≡ some (h .free)
-    unfolding takeCell hold heapOf
-    new-holds =
-        let ok = Z .within .limits in
-        let I : Inv (h .sizes) (takeCell v (heapOf h r)) =
-        subst (λ (o : Stepped). Inv (h .sizes) (o .heap)) new-taken (step-inv (h .sizes) ok (New v) (heapOf h r) ((entry-ended Z S) .inv) (fit .0)) in
-        let e = settled-done (h .sizes) ok (takeCell v (heapOf h r)) I .1 .1 in
-        let long : v < length (heapOf h r .shape .variables) = let g = (entry-ended Z S) .inv .variables-long in let k = fit .0 in omega arith in
-        rw (new-heap, e) (getD-set-same (heapOf h r .shape .variables) v (some (h .free)) none long)
-
-    handed : (statusAt (accepted h r (New v ∷ []) row) [] ≡ pos 0) × (getD (accepted h r (New v ∷ []) row .rows .variables) v (negsuc 0) ≡ pos (h .free))
-    handed = (new-status ∙ ap (λ (o : Stepped). pos (o .answer .status)) new-taken, new-row ∙ ap variableOf new-holds)
-      where
-        new-row : getD (accepted h r (New v ∷ []) row .rows .variables) v (negsuc 0) ≡ variableOf (getD (batch (h .sizes) (New v ∷ []) (heapOf h r) .heap .shape .variables) v none)
-        new-row = unfold accepted rowsOf in List·getD-map variableOf (batch (h .sizes) (New v ∷ []) (heapOf h r) .heap .shape .variables) v none
-
 -- ---- at a moment of a batch
 
 module _ {h : Head} {r : Lent} (Z : Sized h r) (S : Sound h r) (cs : List Call) (F : AllFit (h .sizes .m) cs) where
@@ -171,7 +136,7 @@ module _ {h : Head} {r : Lent} (Z : Sized h r) (S : Sound h r) (cs : List Call) 
   rows-there row = ap (rowsOf (h .sizes)) (end-there h r cs)
 
   frees-there : (row : List ℤ) → FreesExactly (h .sizes) (moment h r cs) (accepted h r cs row .rows)
-  unfolding rowsOf settled
+  unfolding rowsOf settled field place
   frees-there row =
       let s = h .sizes in
       let R = every-settle Settle in
@@ -183,8 +148,9 @@ module _ {h : Head} {r : Lent} (Z : Sized h r) (S : Sound h r) (cs : List Call) 
           λ e. R .frees-only a l .0 (marked-dead (s .n) fs len a e),
           λ t. dead-at (s .n) fs len a (live-below (s .n) (moment h r cs .shape .fields) (moment-inv Z S cs F .good .len) a l) (R .frees-only a l .1 t),
         );
-        in-order = λ k a l t. free-at (s .n) fs len a _ (R .freed-first k a l t) .follows;
-        free = λ a k d. dead-at (s .n) fs len a k (R .stays-free a d);
+        in-order = λ k a l t. free-at (s .n) fs len a _ (R .in-order k a l t) .follows;
+        others-kept = λ a f l n. ap₂ fieldOf (kind-at fs (2 * a + f)) (word-at fs (2 * a + f)) ∙ field-back (field fs a f) ∙ R .others-kept a f l n;
+        variables-kept = ap (map variableOf) (settledBy-variables s (moment h r cs .shape .variables) (moment h r cs));
       })
 
   ring-there : (P : ℕ → Bool) (row : List ℤ) → PointsToItself (moment h r cs .shape .fields) P → (a : ℕ) → P a ≡ true → Live (h .sizes .n) (accepted h r cs row .rows .kinds) a
@@ -193,6 +159,16 @@ module _ {h : Head} {r : Lent} (Z : Sized h r) (S : Sound h r) (cs : List Call) 
       let s = h .sizes in
       let Q = ring-settled s (Z .within .limits) (moment h r cs) (moment-inv Z S cs F) P R in
       rw (rows-there row) (live-at (s .n) (settled s (moment h r cs) .shape .fields) (ended-there .inv .good .len) a (Q .in-use a p))
+
+  at-cap-there : (row : List ℤ) (a : ℕ) → AtCap (accepted h r cs row .outcome .head) (accepted h r cs row .rows .tables) a ↔ (countIn a (replayed (h .sizes .cap) (moment h r cs) .tables .mrt) ≡ h .sizes .cap)
+  unfolding accepted settled view
+  at-cap-there row a =
+      let s = h .sizes in
+      let ok = Z .within .limits in
+      let x = settled s (moment h r cs) in
+      let K = ended-there .inv .kept in
+      let R = every-settle Settle .at-the-cap a in
+      rw (end-there h r cs) (λ A. R .0 (rows-capped s ok a x K A), λ e. capped-rows s ok a x K (R .1 e))
 
   capped-there : (row : List ℤ) (a : ℕ) → AtCap h (r .tables) a → AtCap (accepted h r cs row .outcome .head) (accepted h r cs row .rows .tables) a
   unfolding accepted
@@ -220,14 +196,6 @@ module _ {h : Head} {r : Lent} (Z : Sized h r) (S : Sound h r) (cs : List Call) 
   abbrev now : Heap
   now = moment h r cs
 
-  then-call : (c : Call) → moment h r (cs ++ c ∷ []) ≡ step s c now .heap
-  unfolding heapAfter
-  then-call c = after-both s cs (c ∷ []) (unfreed (heapOf h r))
-
-  then-none : moment h r (cs ++ []) ≡ now
-  unfolding heapAfter
-  then-none = after-both s cs [] (unfreed (heapOf h r))
-
   module _ (v : ℕ) (row row′ : List ℤ) where
     fourteen : (ds : List Call) → (statusAt (accepted h r (cs ++ New v ∷ ds) row) cs ≡ pos 14) ↔ (accepted h r (cs ++ Do (Clear v) ∷ []) row′ .outcome .head .free ≡ s .n)
     unfolding accepted headOf calls
@@ -243,33 +211,24 @@ module _ {h : Head} {r : Lent} (Z : Sized h r) (S : Sound h r) (cs : List Call) 
     unfolding calls
     keeps e =
         let a = kept-settled s (Z .within .limits) v now (moment-inv Z S cs F) (status-now [] 14 e) in
-        same-but h r cs [] (New v ∷ []) [] row row′ (λ i. record { heap = (ap (settled s) (then-call (New v)) ∙ a ∙ ap (settled s) (sym then-none)) i; answers = [] })
-
-    settles : (ds : List Call) → statusAt (accepted h r (cs ++ New v ∷ ds) row) cs ≡ pos 14
-        → SameBut cs (New v ∷ []) (Settle ∷ []) ds (accepted h r (cs ++ New v ∷ ds) row) (accepted h r (cs ++ Settle ∷ ds) row′) × (valueAt (accepted h r (cs ++ Settle ∷ ds) row′) cs ≡ pos 0)
-    settles ds e =
-        let w = status-now ds 14 e in
-        let a = ap (λ (o : Stepped). o .heap) (as-settle s (Z .within .limits) v now (moment-inv Z S cs F) w) in (
-          same-but h r cs ds (New v ∷ []) (Settle ∷ []) row row′ (ap (calls s ds) (then-call (New v) ∙ a ∙ sym (then-call Settle))),
-          value-there h r cs ds Settle row′ ∙ settle-value s (Z .within .limits) v now (moment-inv Z S cs F) w,
-        )
+        same-but h r cs [] (New v ∷ []) [] row row′ (λ i. record { heap = (ap (settled s) (then-call h r cs (New v)) ∙ a ∙ ap (settled s) (sym (then-none h r cs))) i; answers = [] })
 
     lets-go : (ds : List Call) → statusAt (accepted h r (cs ++ New v ∷ ds) row) cs ≡ pos 0
         → SameBut cs [] (Do (Clear v) ∷ []) (New v ∷ ds) (accepted h r (cs ++ New v ∷ ds) row) (accepted h r (cs ++ Do (Clear v) ∷ New v ∷ ds) row′)
     unfolding calls
     lets-go ds e =
         let c = after-clear s (Z .within .limits) v now (moment-inv Z S cs F) (status-now ds 0 e) in
-        same-but h r cs (New v ∷ ds) [] (Do (Clear v) ∷ []) row row′ (goes-on s (New v) ds _ _ (ap (step s (New v)) then-none ∙ sym c ∙ ap (step s (New v)) (sym (then-call (Do (Clear v))))))
+        same-but h r cs (New v ∷ ds) [] (Do (Clear v) ∷ []) row row′ (goes-on s (New v) ds _ _ (ap (step s (New v)) (then-none h r cs) ∙ sym c ∙ ap (step s (New v)) (sym (then-call h r cs (Do (Clear v))))))
 
   -- the settle before a call
   settles-before : (row row′ : List ℤ) (ds : List Call) (x : Call) → statusAt (accepted h r (cs ++ x ∷ ds) row) cs ≡ pos 0 → NotSettle x → wants s x now ≡ true → counted x now ≡ now .shape .variables
       → SameBut cs [] (Settle ∷ []) (x ∷ ds) (accepted h r (cs ++ x ∷ ds) row) (accepted h r (cs ++ Settle ∷ x ∷ ds) row′)
   settles-before row row′ ds x e n w own =
       let c = as-settled-before s (Z .within .limits) x now (moment-inv Z S cs F) n w own (pos-same _ _ (sym (status-there h r cs ds x row) ∙ e)) in
-      same-but h r cs (x ∷ ds) [] (Settle ∷ []) row row′ (goes-on s x ds _ _ (ap (step s x) then-none ∙ c ∙ ap (step s x) (sym (then-settle))))
+      same-but h r cs (x ∷ ds) [] (Settle ∷ []) row row′ (goes-on s x ds _ _ (ap (step s x) (then-none h r cs) ∙ c ∙ ap (step s x) (sym (then-settle))))
     where
       then-settle : moment h r (cs ++ Settle ∷ []) ≡ settled s now
-      then-settle = then-call Settle ∙ ap (λ (o : Stepped). o .heap) (settle-step s now)
+      then-settle = then-call h r cs Settle ∙ ap (λ (o : Stepped). o .heap) (settle-step s now)
 
 -- ---- the call settle
 
@@ -315,7 +274,7 @@ module _ {h : Head} {r : Lent} (Z : Sized h r) (S : Sound h r) (cs : List Call) 
           before = said-before h r cs ds (Settle ∷ []) row ∙ sym (said-own h r cs row′);
           after =
               said-after h r cs ds (Settle ∷ []) row
-              ∙ ap (λ (x : Heap). said ds (answerWords (calls (h .sizes) ds x .answers) ++ [])) (then-call Z S cs F Settle ∙ settle-there)
+              ∙ ap (λ (x : Heap). said ds (answerWords (calls (h .sizes) ds x .answers) ++ [])) (then-call h r cs Settle ∙ settle-there)
               ∙ ap (λ (o : Result). said ds (answerWords (o .answers) ++ [])) (calls-on (h .sizes) ds end)
               ∙ sym (said-on row″);
         }
@@ -327,7 +286,7 @@ module _ {h : Head} {r : Lent} (Z : Sized h r) (S : Sound h r) (cs : List Call) 
 
 -- v holds a cell with both fields nothing: after a settle it does in the rows
 blank-rows : (s : Sizes) → Limits s → (h : Heap) → Inv s h → (v a : ℕ) → var (h .shape) v ≡ some a → field (h .shape .fields) a 0 ≡ Nothing → field (h .shape .fields) a 1 ≡ Nothing
-    → HoldsBlank (rowsOf s (settled s h)) v
+    → HoldsBlank (rowsOf s (settled s h)) v a
 unfolding rowsOf field place var
 blank-rows s ok h I v a e f0 f1 =
     let fs = settled s h .shape .fields in
@@ -335,14 +294,13 @@ blank-rows s ok h I v a e f0 f1 =
     let n0 = still 0 (omega arith) f0 in
     let n1 = still 1 (omega arith) f1 in
     record {
-      cell = a;
       held = row-variable s ok (settled s h) (settled-inv s ok h I) v 0 (omega arith) ∙ ap variableOf (var-settled s ok h I v ∙ e);
       kinds = (kind-at fs (2 * a + 0) ∙ ap kindOf n0, kind-at fs (2 * a + 1) ∙ ap kindOf n1);
       values = (word-at fs (2 * a + 0) ∙ ap valueOf n0, word-at fs (2 * a + 1) ∙ ap valueOf n1);
     }
 
 module _ {h : Head} {r : Lent} (Z : Sized h r) (S : Sound h r) (cs : List Call) (v : ℕ) (F : AllFit (h .sizes .m) (cs ++ New v ∷ [])) (row : List ℤ) where
-  blank-there : statusAt (accepted h r (cs ++ New v ∷ []) row) cs ≡ pos 0 → HoldsBlank (accepted h r (cs ++ New v ∷ []) row .rows) v
+  blank-there : statusAt (accepted h r (cs ++ New v ∷ []) row) cs ≡ pos 0 → HoldsBlank (accepted h r (cs ++ New v ∷ []) row .rows) v (settledFor (h .sizes) (New v) (moment h r cs) .first)
   blank-there e =
       let s = h .sizes in
       let ok = Z .within .limits in
@@ -350,9 +308,13 @@ module _ {h : Head} {r : Lent} (Z : Sized h r) (S : Sound h r) (cs : List Call) 
       let m = moment h r cs in
       let I = moment-inv Z S cs (p .0) in
       let H = facts.handed-out-again s ok v (p .1 .0) m I (pos-same _ _ (sym (status-there h r cs [] (New v) row) ∙ e)) in
-      let t = then-call Z S cs (p .0) (New v) in
+      let t = then-call h r cs (New v) in
       rw (rows-there Z S (cs ++ New v ∷ []) F row, t)
       (blank-rows s ok (step s (New v) m .heap) (step-inv s ok (New v) m I (p .1 .0)) v (settledFor s (New v) m .first) (H .held) (H .field-0) (H .field-1))
+
+sizes-left : (h : Head) (r : Lent) (cs : List Call) (row : List ℤ) → accepted h r cs row .outcome .head .sizes ≡ h .sizes
+unfolding accepted headOf
+sizes-left h r cs row = refl
 
 -- a batch on what another left
 on-left : (h : Head) (r : Lent) (c d : Batch) (e : Heap) → handIn ours h r c .outcome .head ≡ headOf (h .sizes) e → handIn ours h r c .rows ≡ rowsOf (h .sizes) e
@@ -374,18 +336,19 @@ module _ (h : Head) (r : Lent) (b : Batch) where
   batch-settles =
       record {
         by-the-rules = λ cs d a. took h r b cs d a .left;
+        sizes-stay = λ a. let t = took-some h r b a in rw (t .had .left) (sizes-left h r (t .calls) (b .answers));
         batch-sound = λ a.
             let t = took-some h r b a .had in
             rw (t .left) (exit-sized (t .sized) (t .sound) _ (t .fit) (b .answers), exit-sound (t .sized) (t .sound) _ (t .fit) (b .answers));
         exact-below-cap = λ a. let t = took-some h r b a .had in rw (t .left) (exit-sound (t .sized) (t .sound) _ (t .fit) (b .answers) .agree);
         frees-all = λ a. let t = took-some h r b a .had in rw (t .left) (all-held (t .sized) (t .sound) _ (t .fit) (b .answers));
         frees-exactly = λ cs d a. let t = took h r b cs d a in rw (t .left) (frees-there (t .sized) (t .sound) cs (t .fit) (b .answers));
+        at-the-cap = λ cs d a x. let t = took h r b cs d a in rw (t .left) (at-cap-there (t .sized) (t .sound) cs (t .fit) (b .answers) x);
         cap-stays = λ a x C. let t = took-some h r b a .had in rw (t .left) (capped-there (t .sized) (t .sound) _ (t .fit) (b .answers) x C);
         ring-stays = λ cs P d a R. let t = took h r b cs d a in rw (t .left) (ring-there (t .sized) (t .sound) cs (t .fit) P (b .answers) R);
         count-is-freed = λ cs d a. let t = took h r b cs d a in rw (t .left) (count-freed (t .sized) (t .sound) cs (t .fit) (b .answers));
         count-is-sum = λ cs d a. let t = took h r b cs d a in rw (t .left) (sum-there (t .sized) (t .sound) cs (t .fit) (b .answers));
-        handed-out-again = λ v d a f. let t = took h r b (New v ∷ []) d a in rw (t .left) (handed (t .sized) (t .sound) v (t .fit) (b .answers) f);
-        handed-out-blank = λ cs v d a o. let t = took h r b (cs ++ New v ∷ []) d a in rw (t .left) (blank-there (t .sized) (t .sound) cs v (t .fit) (b .answers) (rw (t .left) at o));
+        handed-out-again = λ cs v d a o. let t = took h r b (cs ++ New v ∷ []) d a in rw (t .left) (blank-there (t .sized) (t .sound) cs v (t .fit) (b .answers) (rw (t .left) at o));
       }
 
   module _ (c : Batch) where
@@ -413,11 +376,6 @@ module _ (h : Head) (r : Lent) (b : Batch) where
               let u = took h r c cs e a′ in
               same-as (t .left) (u .left ∙ ap (λ (es : List Call). accepted h r es (c .answers)) (sym (append-nil cs)))
               (keeps (t .sized) (t .sound) cs (u .fit) v (b .answers) (c .answers) (rw (t .left) at o));
-          fourteen-settles = λ cs ds v d e a a′ o.
-              let t = took h r b (cs ++ New v ∷ ds) d a in
-              let u = took h r c (cs ++ Settle ∷ ds) e a′ in
-              let S = settles (t .sized) (t .sound) cs (fit-parts (h .sizes .m) cs (New v ∷ ds) (t .fit) .0) v (b .answers) (c .answers) ds (rw (t .left) at o) in
-              (same-as (t .left) (u .left) (S .0), rw (u .left) (S .1));
         }
 
     module _ (d : Batch) where
@@ -427,8 +385,9 @@ module _ (h : Head) (r : Lent) (b : Batch) where
           let t = took h r b (cs ++ Settle ∷ ds) x a in
           let u = took h r c cs y a′ in
           let e = settled (h .sizes) (moment h r cs) in
-          let on = on-left h r c d e (ap (λ (o : Batched). o .outcome .head) (u .left) ∙ head-there h r cs (c .answers)) (ap (λ (o : Batched). o .rows) (u .left) ∙ rows-there (u .sized) (u .sound) cs (u .fit) (c .answers)) in
-          let w = took (headOf (h .sizes) e) (rowsOf (h .sizes) e) d ds z (ap (λ (o : Batched). o .outcome .status) (sym on) ∙ a″) in
+          let top = ap (λ (o : Batched). o .outcome .head) (u .left) ∙ head-there h r cs (c .answers) in
+          let on = on-left h r c d e top (ap (λ (o : Batched). o .rows) (u .left) ∙ rows-there (u .sized) (u .sound) cs (u .fit) (c .answers)) in
+          let w = took (headOf (h .sizes) e) (rowsOf (h .sizes) e) d ds (subst (λ (k : Head). Asks k d ds) top z) (ap (λ (o : Batched). o .outcome .status) (sym on) ∙ a″) in
           ends-as (t .left) (u .left) (on ∙ w .left) (ends-there (u .sized) (u .sound) cs (u .fit) ds (b .answers) (c .answers) (d .answers))
 
 pub demand-2 : Demand2 ours

@@ -2,7 +2,7 @@
 use Prim.Native.Nat.{ℕ, zero, suc, _+_, _-_, _<_, _≤_}
 use mathlib.Core.Path.{_≡_, refl, sym, ap, _∙_}
 use mathlib.Core.Logic.{_⊎_, inl, inr, _↔_}
-use mathlib.Core.Bool.{Bool, true, false, _&&_, _||_, cond, false≢true}
+use mathlib.Core.Bool.{Bool, true, false, _&&_, _||_, cond, false≢true, true≢false}
 use mathlib.Core.Option.{Option, none, some}
 use mathlib.Core.List.{List, [], _∷_}
 use native.Mathlib.Omega.{arith}
@@ -22,18 +22,19 @@ use Rattle.rules.specs.Table.{has}
 use Rattle.rules.specs.Rules.{replay}
 use Rattle.rules.specs.Heap.{Shape, Heap, place, field}
 use Rattle.rules.specs.Settle.{pick, replayed, settledBy, settled}
-use Rattle.rules.specs.Call.{Answer, answer, InRange, Fits, AllFit, unless, var, at, isHeld, isCell, noFigure, want, refuses, check, hold}
-use Rattle.rules.specs.Demands.{reasons, Listed}
+use Rattle.rules.specs.Call.{Answer, answer, InRange, Fits, AllFit, unless, var, at, isHeld, isCell, noFigure, want, refuses, check, hold, value}
+use Rattle.rules.specs.Demands.{reasons, hasValue, Listed}
 use Rattle.rules.specs.Step.{Stepped, refused, settledIf, full, noneFree, takeCell, doNew, run, step, calls, batch, wants, counted, settledFor, doDeed, acted, unfreed}
 use Rattle.rules.specs.Head.{Limits}
 use Rattle.rules.specs.Run.{isNew}
 use Rattle.rules.specs.Moment.{turns, Taking, SettlesRight}
-use Rattle.rules.specs.Invariant.{live, Inv, lives}
+use Rattle.rules.specs.Invariant.{live, view, Inv, lives}
 use Rattle.rules.proofs.Tables.{eqb-self}
 use Rattle.rules.proofs.Sorted.{replay-kept}
 use Rattle.rules.proofs.Cells.{free-dead, lives-taken, live-store-0, field-same, field-across}
 use Rattle.rules.proofs.Turn.{turn-none}
-use Rattle.rules.proofs.Reclaim.{pick-least, pick-some, pick-none, having, reclaim-good, reclaim-kept, reclaim-dead, taken-when, taken-marked}
+use Rattle.rules.proofs.Reclaim.{pick-least, pick-some, pick-none, having, least-pick, reclaim-good, reclaim-kept, untaken-field, taken-when, taken-marked}
+use Rattle.rules.proofs.Capped.{settled-at-cap}
 use Rattle.rules.proofs.Calls.{act-lives}
 use Rattle.rules.proofs.Step.{settledBy-good, settledBy-done, settledBy-sum, none-free-settled, counting, counted-good, counted-full, readied, readied-inv, readied-right, for-readied, Ran, run-as, taken, step-inv, counted-from-0}
 
@@ -140,6 +141,18 @@ new-alone (Do (Read v f)) e = absurd (false≢true e)
 new-alone (Do (Same v w)) e = absurd (false≢true e)
 new-alone Settle e = absurd (false≢true e)
 
+-- only read and same have a value
+value-nought : (d : Deed) (sh : Shape) → hasValue (Do d) ≡ false → value d sh ≡ pos 0
+unfolding value
+value-nought (Copy v w) sh e = refl
+value-nought (Clear v) sh e = refl
+value-nought (Link v f w) sh e = refl
+value-nought (Put v f x) sh e = refl
+value-nought (Blank v f) sh e = refl
+value-nought (Follow v f w) sh e = refl
+value-nought (Read v f) sh e = absurd (true≢false e)
+value-nought (Same v w) sh e = absurd (true≢false e)
+
 -- a call is answered 0, or with one of its reasons and the value nought
 pub step-listed : (s : Sizes) (c : Call) (h : Heap) → Listed c (pos (step s c h .answer .status)) (step s c h .answer .value)
 unfolding step run acted doNew doDeed
@@ -147,12 +160,12 @@ step-listed s c h = go (check c (h .shape)) refl
   where
     new-listed : (q : Bool) (v : ℕ) (k : Heap) → Listed (New v) (pos (doNew q v k .answer .status)) (doNew q v k .answer .value)
     new-listed true v k = (refl, refl)
-    new-listed false v k = tt
+    new-listed false v k = λ e. refl
 
     ran : (c : Call) → Listed c (pos (run s c h .answer .status)) (run s c h .answer .value)
     ran (New v) = new-listed (noneFree s (settledFor s (New v) h)) v (settledFor s (New v) h)
-    ran (Do d) = tt
-    ran Settle = tt
+    ran (Do d) = value-nought d (settledFor s (Do d) h .shape)
+    ran Settle = λ e. absurd (true≢false e)
 
     go : (k : ℕ) → check c (h .shape) ≡ k → Listed c (pos (unless k (refused h) (run s c h) .answer .status)) (unless k (refused h) (run s c h) .answer .value)
     go zero d = ran c
@@ -175,17 +188,29 @@ module _ (s : Sizes) (ok : Limits s) where
       let good = counted-good s ok c h g in
       let m = reclaim-kept (s .n) (s .cap) (ok .cap-least) hs k (replayed (s .cap) h) good (replay-kept (s .n) (s .cap) (ok .cap-least) (h .log) (h .tables) (g .kept) (g .log-small)) in
       record {
-        picked = e;
         in-zct = p .0;
         unheld = p .1;
         smallest = λ b. pick-least hs (t .tables .zct) a b (m .zct-up) e;
         no-pointer = turn-none (s .n) (s .cap) (ok .cap-least) hs t (reclaim-good (s .n) (s .cap) (ok .cap-least) hs k (replayed (s .cap) h) good) a (p .0) (p .1);
       }
 
+  -- and it takes no other
+  taken-by : (c : Call) (h : Heap) → Inv s h → (k a : ℕ) → Taking s (counted c h) h k a → pick (counted c h) (turns s (counted c h) h k .tables .zct) ≡ some a
+  unfolding turns replayed
+  taken-by c h g k a t =
+      let hs = counted c h in
+      let m = reclaim-kept (s .n) (s .cap) (ok .cap-least) hs k (replayed (s .cap) h) (counted-good s ok c h g) (replay-kept (s .n) (s .cap) (ok .cap-least) (h .log) (h .tables) (g .kept) (g .log-small)) in
+      least-pick hs (turns s hs h k .tables .zct) a (m .zct-up) (t .in-zct) (t .unheld) (t .smallest)
+
+  -- which is then followed by the cell that was the first free one
+  taken-mark : (c : Call) (h : Heap) → Inv s h → (k a : ℕ) → k < s .n → Taking s (counted c h) h k a → field (settledBy s (counted c h) h .shape .fields) a 0 ≡ Free (turns s (counted c h) h k .first)
+  unfolding settledBy turns replayed
+  taken-mark c h g k a l t = taken-marked (s .n) (s .cap) (ok .cap-least) (counted c h) (replayed (s .cap) h) (counted-good s ok c h g) a k (s .n) l (taken-by c h g k a t)
+
   -- the settle before a call, and so every settle: the one that the call `settle` makes counts what the variables hold, as the one at a batch's end
   -- does, and the one made for a new counts no hold of v
   pub settles-right : (c : Call) (h : Heap) → Inv s h → SettlesRight s (counted c h) h
-  unfolding settledBy turns replayed
+  unfolding settledBy turns replayed view
   settles-right c h g =
       let hs = counted c h in
       let good = counted-good s ok c h g in
@@ -193,12 +218,15 @@ module _ (s : Sizes) (ok : Limits s) where
       record {
         frees-only = λ a l. (
           λ d. let r = taken-when (s .n) (s .cap) (ok .cap-least) hs at good a l (s .n) d in record { turn = r .0; within = r .1 .0; taking = takes c h g (r .0) a (r .1 .1) },
-          λ t. free-dead (settledBy s hs h .shape .fields) a _ (taken-marked (s .n) (s .cap) (ok .cap-least) hs at good a (t .turn) (s .n) (t .within) (t .taking .picked)),
+          λ t. free-dead (settledBy s hs h .shape .fields) a _ (taken-mark c h g (t .turn) a (t .within) (t .taking)),
         );
-        freed-first = λ k a l t. taken-marked (s .n) (s .cap) (ok .cap-least) hs at good a k (s .n) l (t .picked);
-        stays-free = λ a d. reclaim-dead (s .n) (s .cap) (ok .cap-least) hs at good a d (s .n);
+        in-order = taken-mark c h g;
+        others-kept = λ a f l n.
+            untaken-field (s .n) (s .cap) (ok .cap-least) hs at good a f l (s .n)
+            (λ j i e. n (record { turn = j; within = i; taking = takes c h g j a e }));
         frees-all = pick-none hs (settledBy s hs h .tables .zct) (settledBy-done s ok hs h good);
         exact-below-cap = λ b. settledBy-good s ok hs h good .counted b .exact;
+        at-the-cap = λ a. settled-at-cap s ok a hs h good;
       }
 
   -- ---- cells in use and cells freed

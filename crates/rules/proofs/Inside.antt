@@ -13,7 +13,8 @@ use lib.Seq.{getD-drop}
 use borrow.Author.Tests.{eqb-true}
 use Rattle.rules.specs.declared.Field.{Field}
 use Rattle.rules.specs.declared.Field.the-variants.{Nothing, Figure, Cell, Free}
-use Rattle.rules.specs.declared.Deed.the-variants.{Read}
+use Rattle.rules.specs.declared.Deed.{Deed}
+use Rattle.rules.specs.declared.Deed.the-variants.{Copy, Clear, Link, Put, Blank, Follow, Read, Same}
 use Rattle.rules.specs.declared.Call.{Call}
 use Rattle.rules.specs.declared.Call.the-variants.{Do}
 use Rattle.rules.specs.declared.Sizes.{Sizes}
@@ -22,8 +23,8 @@ use Rattle.rules.specs.Field.{kindOf, variableOf}
 use Rattle.rules.specs.Heap.{Heap, place, field}
 use Rattle.rules.specs.Rules.{replay}
 use Rattle.rules.specs.Settle.{holds, replayed, settledBy, settled}
-use Rattle.rules.specs.Call.{AllFit, unless, var, at, isHeld, noFigure, refuses, check}
-use Rattle.rules.specs.Step.{refused, doDeed, acted, run, step, calls}
+use Rattle.rules.specs.Call.{InRange, AllFit, unless, var, at, isHeld, noFigure, refuses, value}
+use Rattle.rules.specs.Step.{refused, wants, settledIf, settledFor, doDeed, acted, run, step, calls}
 use Rattle.rules.specs.Rows.{rowsOf}
 use Rattle.rules.specs.Refusals.{answerWords}
 use Rattle.rules.specs.Run.{Said, said}
@@ -139,16 +140,56 @@ module _ (s : Sizes) (ok : Limits s) (h : Heap) (g : Inv s h) where
       go none e = refl
       go (some a) e = held-fields a f (holds-var (h .shape .variables) v a e) k
 
+  -- so a settle changes nothing for a deed
+  pub refuses-settled : (d : Deed) → InRange (s .m) d → refuses d (settled s h .shape) ≡ refuses d (h .shape)
+  unfolding refuses
+  refuses-settled (Copy v w) r = refl
+  refuses-settled (Clear v) r = refl
+  refuses-settled (Link v f w) r = rw (var-settled v, var-settled w)
+  refuses-settled (Put v f x) r = rw (var-settled v)
+  refuses-settled (Blank v f) r = rw (var-settled v)
+  refuses-settled (Follow v f w) r = rw (var-settled v, seen-settled v f (r .1))
+  refuses-settled (Read v f) r = rw (var-settled v, seen-settled v f (r .1))
+  refuses-settled (Same v w) r = rw (var-settled v, var-settled w)
+
+  pub value-settled : (d : Deed) → InRange (s .m) d → value d (settled s h .shape) ≡ value d (h .shape)
+  unfolding value
+  value-settled (Copy v w) r = refl
+  value-settled (Clear v) r = refl
+  value-settled (Link v f w) r = refl
+  value-settled (Put v f x) r = refl
+  value-settled (Blank v f) r = refl
+  value-settled (Follow v f w) r = refl
+  value-settled (Read v f) r = rw (seen-settled v f (r .1))
+  value-settled (Same v w) r = rw (var-settled v, var-settled w)
+
+  deed-ran : (d : Deed) → InRange (s .m) d → value d (settledFor s (Do d) h .shape) ≡ value d (h .shape)
+  unfolding settledIf settled
+  deed-ran d r = go (wants s (Do d) h)
+    where
+      go : (b : Bool) → value d (settledIf b s (h .shape .variables) h .shape) ≡ value d (h .shape)
+      go true = value-settled d r
+      go false = refl
+
+  pub deed-value : (d : Deed) → InRange (s .m) d → refuses d (h .shape) ≡ 0 → step s (Do d) h .answer .value ≡ value d (h .shape)
+  unfolding step run acted doDeed
+  deed-value d r e = rw e (deed-ran d r)
+
+-- a deed's status is what refuses it
+pub deed-status : (s : Sizes) (d : Deed) (h : Heap) → step s (Do d) h .answer .status ≡ refuses d (h .shape)
+unfolding step run acted doDeed
+deed-status s d h = go (refuses d (h .shape))
+  where
+    go : (k : ℕ) → unless k (refused h) (run s (Do d) h) .answer .status ≡ k
+    go zero = refl
+    go (suc k) = refl
+
 -- ---- what a read says
 
 -- 11 where v holds nothing, else what its field f gives
 read-status : (s : Sizes) (v f : ℕ) (h : Heap) → step s (Do (Read v f)) h .answer .status ≡ cond (isHeld (var (h .shape) v)) (noFigure (at (h .shape) v f)) 11
-unfolding step run acted doDeed refuses
-read-status s v f h = go (check (Do (Read v f)) (h .shape))
-  where
-    go : (k : ℕ) → unless k (refused h) (run s (Do (Read v f)) h) .answer .status ≡ k
-    go zero = refl
-    go (suc k) = refl
+unfolding refuses
+read-status s v f h = deed-status s (Read v f) h
 
 -- by the field's kind
 record ByKind (x : Field) : Type 0 where

@@ -9,6 +9,7 @@ pub mod Sorted
 pub mod Cells
 pub mod Turn
 pub mod Reclaim
+pub mod Capped
 pub mod FreeList
 pub mod Calls
 pub mod Step

@@ -59,6 +59,19 @@ pick-least hs (x ∷ z) a b s e i u = go (holds x hs) refl e (pick-least hs z a 
     go false d e ih true f i = let g : x ≡ a = cc in let k = eqb-true b x f in omega arith
     go false d e ih false f i = let g : x ≡ a = cc in let k = all-has (λ y. x < y) b z (s .0) i in omega arith
 
+-- and the smallest such is the one that it takes
+pub least-pick : (hs : List (Option ℕ)) (z : List ℕ) (a : ℕ) → Ascending z → has a z ≡ true → holds a hs ≡ false → ((b : ℕ) → has b z ≡ true → holds b hs ≡ false → a ≤ b) → pick hs z ≡ some a
+least-pick hs z a s i u m = go (pick hs z) refl
+  where
+    go : (o : Option ℕ) → pick hs z ≡ o → pick hs z ≡ some a
+    go none e = absurd (true≢false (sym (pick-none hs z e a i) ∙ u))
+    go (some b) e =
+        let p = pick-some hs z b e in
+        let l = m b (p .0) (p .1) in
+        let k = pick-least hs z b a s e i u in
+        let q : b ≡ a = omega arith in
+        e ∙ ap some q
+
 -- ---- what freeing leaves, reclaiming leaves
 
 pub reclaim-leaves : {A : Type 0} (f : Heap → A) (cap : ℕ) (hs : List (Option ℕ)) → ((a : ℕ) (h : Heap) → f (freeCell cap a h) ≡ f h) → (k : ℕ) (h : Heap) → f (reclaim cap hs k h) ≡ f h
@@ -215,15 +228,24 @@ module _ (n cap : ℕ) (cap3 : 3 ≤ cap) (hs : List (Option ℕ)) where
       go false e ih = let r = ih e in (r .0, (let x = r .1 .0 in omega arith, r .1 .1))
       go true e ih = (k, (omega arith, turn (pick hs (R .tables .zct)) refl e (ap (λ x. live (x .shape .fields) a) (sym (reclaim-last cap hs k h)) ∙ d)))
 
-  -- a cell that is free stays free
-  pub reclaim-dead : (h : Heap) → G h → (a : ℕ) → live (h .shape .fields) a ≡ false → (k : ℕ) → live (reclaim cap hs k h .shape .fields) a ≡ false
-  reclaim-dead h g a d k = reclaim-keeps (λ x. live (x .shape .fields) a ≡ false) (λ x e b i u p. turn-live n cap cap3 hs x e b i u a ∙ rw p (go (eqb a b))) k h g d
+  -- a cell that no turn takes keeps its fields
+  pub untaken-field : (h : Heap) → G h → (a f : ℕ) → f < 2 → (k : ℕ) → ((j : ℕ) → j < k → pick hs (reclaim cap hs j h .tables .zct) ≡ some a → ⊥) → field (reclaim cap hs k h .shape .fields) a f ≡ field (h .shape .fields) a f
+  untaken-field h g a f l zero u = unfold reclaim in refl
+  untaken-field h g a f l (suc k) u =
+      ap (λ x. field (x .shape .fields) a f) (reclaim-last cap hs k h) ∙ turn (pick hs (R .tables .zct)) refl ∙ untaken-field h g a f l k (λ j i. u j (omega arith))
     where
-      go : (q : Bool) → cond q false false ≡ false
-      go true = refl
-      go false = refl
+      R : Heap
+      R = reclaim cap hs k h
 
-  -- with the address that follows it
+      other : (b : ℕ) → pick hs (R .tables .zct) ≡ some b → (q : Bool) → eqb a b ≡ q → eqb a b ≡ false
+      other b e true d = absurd (u k (omega arith) (e ∙ ap some (sym (eqb-true a b d))))
+      other b e false d = d
+
+      turn : (o : Option ℕ) → pick hs (R .tables .zct) ≡ o → field (onPick o R (λ b. freeCell cap b R) .shape .fields) a f ≡ field (R .shape .fields) a f
+      turn none e = refl
+      turn (some b) e = let m = pick-some hs (R .tables .zct) b e in turn-field n cap cap3 hs R (reclaim-good k h g) b (m .0) (m .1) a f (other b e (eqb a b) refl) l
+
+  -- a free cell keeps the address that follows it
   reclaim-mark : (h : Heap) → G h → (a b : ℕ) → field (h .shape .fields) a 0 ≡ Free b → (k : ℕ) → field (reclaim cap hs k h .shape .fields) a 0 ≡ Free b
   reclaim-mark h g a b e k =
       reclaim-keeps (λ x. field (x .shape .fields) a 0 ≡ Free b) (λ x y c i u p. turn-field n cap cap3 hs x y c i u a 0 (other x y c i u p (eqb a c) refl) (omega arith) ∙ p) k h g e

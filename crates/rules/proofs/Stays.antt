@@ -28,6 +28,7 @@ use Rattle.rules.specs.Demands.{AtCap}
 use Rattle.rules.proofs.Tables.{change, view-own, view-other}
 use Rattle.rules.proofs.Turn.{turn-none, turn-live, turn-field}
 use Rattle.rules.proofs.Reclaim.{reclaim-keeps}
+use Rattle.rules.proofs.Capped.{Capped, settledBy-capped}
 use Rattle.rules.proofs.Positions.{count-at, at-count, pad-at, some-refs}
 use Rattle.rules.proofs.Roundtrip.{head-of-heap, rows-of-heap}
 use Rattle.rules.proofs.Entry.{entry-ended}
@@ -35,56 +36,12 @@ use Rattle.rules.proofs.Entry.{entry-ended}
 -- ---- a count at the cap
 
 module _ (s : Sizes) (ok : Limits s) (a : ℕ) where
-  -- a's entry is at the cap
-  abbrev Capped : Tables → Type 0
-  Capped t = view t a .1 ≡ s .cap
-
-  change-capped : (x : Transaction) (p : Bool) (k : ℕ) → k ≡ s .cap → change (s .cap) x (p, k) .1 ≡ s .cap
-  unfolding change
-  change-capped (allocates b) p k e = e
-  change-capped (creates b) true k e = e
-  change-capped (creates b) false zero e = absurd (let l = ok .cap-least in omega arith)
-  change-capped (creates b) false (suc k) e = rw (eq-eqb (suc k) (s .cap) e) e
-  change-capped (destroys b) p zero e = absurd (let l = ok .cap-least in omega arith)
-  change-capped (destroys b) p (suc k) e = rw (eq-eqb (suc k) (s .cap) e) e
-
-  apply-capped : (x : Transaction) (t : Tables) → Capped t → Capped (apply (s .cap) x t)
-  apply-capped x t e = go (eqb a (named x)) refl
-    where
-      own : a ≡ named x → view (apply (s .cap) x t) (named x) .1 ≡ s .cap
-      own q = ap (λ (v : View). v .1) (view-own (s .cap) x t) ∙ change-capped x (view t (named x) .0) (view t (named x) .1) (ap (λ (b : ℕ). view t b .1) (sym q) ∙ e)
-
-      go : (q : Bool) → eqb a (named x) ≡ q → Capped (apply (s .cap) x t)
-      go true d = let q = eqb-true a (named x) d in ap (λ (b : ℕ). view (apply (s .cap) x t) b .1) q ∙ own q
-      go false d = ap (λ (v : View). v .1) (view-other (s .cap) x t a d) ∙ e
-
-  replay-capped : (xs : List Transaction) (t : Tables) → Capped t → Capped (replay (s .cap) xs t)
-  unfolding replay
-  replay-capped [] t e = e
-  replay-capped (x ∷ xs) t e = replay-capped xs (apply (s .cap) x t) (apply-capped x t e)
-
-  reclaim-capped : (hs : List (Option ℕ)) (k : ℕ) (h : Heap) → Capped (h .tables) → Capped (reclaim (s .cap) hs k h .tables)
-  unfolding reclaim
-  reclaim-capped hs zero h e = e
-  reclaim-capped hs (suc k) h e = go (pick hs (h .tables .zct)) (λ b. reclaim-capped hs k (freeCell (s .cap) b h) (freed b))
-    where
-      freed : (b : ℕ) → Capped (freeCell (s .cap) b h .tables)
-      freed b = unfold freeCell in replay-capped _ (leaveZct b (h .tables)) (unfold leaveZct view in e)
-
-      go : (o : Option ℕ) → ((b : ℕ) → Capped (reclaim (s .cap) hs k (freeCell (s .cap) b h) .tables)) → Capped (onPick o h (λ b. reclaim (s .cap) hs k (freeCell (s .cap) b h)) .tables)
-      go none ih = e
-      go (some b) ih = ih b
-
-  settledBy-capped : (hs : List (Option ℕ)) (h : Heap) → Capped (h .tables) → Capped (settledBy s hs h .tables)
-  unfolding settledBy replayed
-  settledBy-capped hs h e = reclaim-capped hs (s .n) (replayed (s .cap) h) (replay-capped (h .log) (h .tables) e)
-
-  settledFor-capped : (c : Call) (h : Heap) → Capped (h .tables) → Capped (settledFor s c h .tables)
+  settledFor-capped : (c : Call) (h : Heap) → Capped s a (h .tables) → Capped s a (settledFor s c h .tables)
   unfolding settledIf
   settledFor-capped c h e = go (wants s c h)
     where
-      go : (b : Bool) → Capped (settledIf b s (counted c h) h .tables)
-      go true = settledBy-capped (counted c h) h e
+      go : (b : Bool) → Capped s a (settledIf b s (counted c h) h .tables)
+      go true = settledBy-capped s ok a (counted c h) h e
       go false = e
 
   -- the call itself leaves the tables
@@ -98,23 +55,23 @@ module _ (s : Sizes) (ok : Limits s) (a : ℕ) where
   acted-tables (Do d) k h = refl
   acted-tables Settle k h = refl
 
-  step-capped : (c : Call) (h : Heap) → Capped (h .tables) → Capped (step s c h .heap .tables)
+  step-capped : (c : Call) (h : Heap) → Capped s a (h .tables) → Capped s a (step s c h .heap .tables)
   unfolding step run
   step-capped c h e = go (check c (h .shape))
     where
-      go : (k : ℕ) → Capped (unless k (refused h) (run s c h) .heap .tables)
+      go : (k : ℕ) → Capped s a (unless k (refused h) (run s c h) .heap .tables)
       go zero = ap (λ (t : Tables). view t a .1) (acted-tables c _ (settledFor s c h)) ∙ settledFor-capped c h e
       go (suc k) = e
 
-  pub calls-capped : (cs : List Call) (h : Heap) → Capped (h .tables) → Capped (calls s cs h .heap .tables)
+  pub calls-capped : (cs : List Call) (h : Heap) → Capped s a (h .tables) → Capped s a (calls s cs h .heap .tables)
   unfolding calls settled
-  calls-capped [] h e = settledBy-capped (h .shape .variables) h e
+  calls-capped [] h e = settledBy-capped s ok a (h .shape .variables) h e
   calls-capped (c ∷ cs) h e = calls-capped cs (step s c h .heap) (step-capped c h e)
 
   -- ---- in the rows
 
   module _ (h : Heap) (K : Kept (s .n) (s .cap) (h .tables)) where
-    rows-capped : AtCap (headOf s h) (rowsOf s h .tables) a → Capped (h .tables)
+    pub rows-capped : AtCap (headOf s h) (rowsOf s h .tables) a → Capped s a (h .tables)
     unfolding rowsOf headOf view
     rows-capped A =
         let m = h .tables .mrt in
@@ -125,7 +82,7 @@ module _ (s : Sizes) (ok : Limits s) (a : ℕ) where
         let f = sym (pad-at (s .n) (counts m) j lc) ∙ A .full in
         ap (λ (b : ℕ). countIn b m) (sym e) ∙ count-at m (K .mrt-up) j (A .within) ∙ f
 
-    capped-rows : Capped (h .tables) → AtCap (headOf s h) (rowsOf s h .tables) a
+    pub capped-rows : Capped s a (h .tables) → AtCap (headOf s h) (rowsOf s h .tables) a
     unfolding rowsOf headOf view
     capped-rows e = go (s .cap) refl e
       where

@@ -1,22 +1,25 @@
--- The letter's three demands, each sentence a named fact about ANY heap: what a batch was handed, and what it left. Assumes nothing.
+-- The letter's three demands, each sentence a named fact about ANY heap: what batches were handed, and what they left. Assumes nothing.
 use Prim.Native.Nat.{ℕ, zero, suc, _+_, _*_, _-_, _≤_, _<_}
 use mathlib.Core.Path.{_≡_}
 use mathlib.Core.Logic.{_↔_}
 use mathlib.Core.Bool.{Bool, true, false, cond}
 use mathlib.Core.Option.{none, some}
-use mathlib.Core.List.{List, [], _∷_, _++_}
+use mathlib.Core.List.{List, [], _∷_, _++_, map}
 use lib.ListN.{length, getD, drop, replicate}
 use lib.IntN.{ℤ, pos, negsuc}
 use Rattle.rules.specs.declared.Head.{Head}
 use Rattle.rules.specs.declared.Sizes.{Sizes}
+use Rattle.rules.specs.declared.Deed.{Deed}
 use Rattle.rules.specs.declared.Deed.the-variants.{Copy, Clear, Link, Put, Blank, Follow, Read, Same}
 use Rattle.rules.specs.declared.Call.{Call}
 use Rattle.rules.specs.declared.Call.the-variants.{New, Do, Settle}
 use Rattle.rules.specs.Head.{freshHead, zeroHead}
-use Rattle.rules.specs.Table.{has}
-use Rattle.rules.specs.Heap.{Heap}
-use Rattle.rules.specs.Call.{callsIn, isNought}
-use Rattle.rules.specs.Step.{wants, counted, unfreed, fresh}
+use Rattle.rules.specs.Field.{fieldOf, variableOf}
+use Rattle.rules.specs.Table.{has, countIn}
+use Rattle.rules.specs.Heap.{Shape, Heap, field}
+use Rattle.rules.specs.Settle.{replayed}
+use Rattle.rules.specs.Call.{callsIn, isNought, refuses, value}
+use Rattle.rules.specs.Step.{wants, counted, settledFor, unfreed, fresh}
 use Rattle.rules.specs.Rows.{TableRows, Lent, rowsOf, heapOf}
 use Rattle.rules.specs.Invariant.{live, lives}
 use Rattle.rules.specs.Moment.{moment, turns, Taking, Taken, livesIn, freedIn, PointsToItself}
@@ -81,9 +84,22 @@ reasons (Do (Read v f)) = 11 ∷ 13 ∷ 15 ∷ []
 reasons (Do (Same v w)) = 11 ∷ []
 reasons Settle = []
 
--- a call is answered 0, or with one of its reasons and the value nought
+-- read, same and settle have a value
+abbrev pub hasValue : Call → Bool
+hasValue (New v) = false
+hasValue (Do (Copy v w)) = false
+hasValue (Do (Clear v)) = false
+hasValue (Do (Link v f w)) = false
+hasValue (Do (Put v f x)) = false
+hasValue (Do (Blank v f)) = false
+hasValue (Do (Follow v f w)) = false
+hasValue (Do (Read v f)) = true
+hasValue (Do (Same v w)) = true
+hasValue Settle = true
+
+-- a call is answered 0, and then the others have the value nought, or with one of its reasons and the value nought
 abbrev pub Listed : Call → ℤ → ℤ → Type 0
-Listed c (pos zero) x = Unit {0}
+Listed c (pos zero) x = hasValue c ≡ false → x ≡ pos 0
 Listed c (pos (suc k)) x = (has (suc k) (reasons c) ≡ true) × (x ≡ pos 0)
 Listed c (negsuc k) x = ⊥
 
@@ -122,13 +138,23 @@ pub record ReadSays (r : Lent) (v f : ℕ) (status : ℤ) : Type 0 where
   pub thirteen : (status ≡ pos 13) ↔ Finds r v f 2
   pub fifteen : (status ≡ pos 15) ↔ Finds r v f 0
 
+-- the answer of a deed, by what these fields and variables show
+pub record DeedSays (d : Deed) (s : Shape) (status value′ : ℤ) : Type 0 where
+  pub refused-for : status ≡ pos (refuses d s)
+  pub value-is : refuses d s ≡ 0 → value′ ≡ value d s
+
 -- of two batches on the same rows: b, that left o, and c, that left p
 pub record CallRefused (h : Head) (r : Lent) (b c : Batch) (o p : Batched) : Type 0 where
   -- a call refused with 11, 12, 13 or 15 changes nothing: the batch leaves what it leaves without that call, and says the same to the others
-  -- (a new answered 14 has settled first: `fourteen-settles`)
   pub refused-as-left-out : (cs ds : List Call) (x : Call) (k : ℕ) → Asks h b (cs ++ x ∷ ds) → Asks h c (cs ++ ds) → Accepted o → Accepted p
       → statusAt o cs ≡ pos (suc k) → (suc k ≡ 14 → ⊥) → SameBut cs (x ∷ []) [] ds o p
-  -- a read, wherever it stands (calls before it, the read, others after it), is answered 15 exactly if its variable holds a cell
+  -- except that a new answered 14 has settled first: the batch is as the one with the call settle, of value nought, in the place of that new
+  pub fourteen-settles : (cs ds : List Call) (v : ℕ) → Asks h b (cs ++ New v ∷ ds) → Asks h c (cs ++ Settle ∷ ds) → Accepted o → Accepted p → statusAt o cs ≡ pos 14
+      → SameBut cs (New v ∷ []) (Settle ∷ []) ds o p × (valueAt p cs ≡ pos 0)
+  -- a deed, wherever it stands (calls before it, the deed, others after it), is refused for what the rows that the batch of the calls before it leaves show, and for
+  -- nothing else, and has its value from them
+  pub deed-answered : (cs ds : List Call) (d : Deed) → Asks h b (cs ++ Do d ∷ ds) → Asks h c cs → Accepted o → Accepted p → DeedSays d (heapOf (p .outcome .head) (p .rows) .shape) (statusAt o cs) (valueAt o cs)
+  -- so a read, wherever it stands, is answered 15 exactly if its variable holds a cell
   -- whose field holds nothing, and 13 exactly if it holds a cell there: by the rows that the batch of the calls before it leaves
   pub fifteen-exactly : (cs ds : List Call) (v f : ℕ) → Asks h b (cs ++ Do (Read v f) ∷ ds) → Asks h c cs → Accepted o → Accepted p → ReadSays (p .rows) v f (statusAt o cs)
 
@@ -158,11 +184,12 @@ abbrev pub ExactBelowCap : Head → Lent → Type 0
 ExactBelowCap h r = Agree h (r .kinds) (r .tables) (pointersTo (h .sizes .n) (r .kinds) (r .values))
 
 -- after a settle of the heap h at a batch's end, which counts what the variables hold: a cell in use is free exactly if one of its turns took it, and is then followed
--- by the cell that was the first free one before that turn; free cells are free
+-- by the cell that was the first free one before that turn; every other cell, free or not, keeps its fields; the variables hold what they held
 pub record FreesExactly (s : Sizes) (h : Heap) (r : Lent) : Type 0 where
   pub freed : (a : ℕ) → live (h .shape .fields) a ≡ true → (mark (r .kinds) a ≡ 3) ↔ Taken s (h .shape .variables) h a
   pub in-order : (k a : ℕ) → k < s .n → Taking s (h .shape .variables) h k a → next (s .n) (r .values) a ≡ turns s (h .shape .variables) h k .first
-  pub free : (a : ℕ) → a < s .n → live (h .shape .fields) a ≡ false → mark (r .kinds) a ≡ 3
+  pub others-kept : (a f : ℕ) → f < 2 → (Taken s (h .shape .variables) h a → ⊥) → fieldOf (kind (r .kinds) a f) (word (r .values) a f) ≡ field (h .shape .fields) a f
+  pub variables-kept : r .variables ≡ map variableOf (h .shape .variables)
 
 -- a has an MRT entry at the cap
 pub record AtCap (h : Head) (t : TableRows) (a : ℕ) : Type 0 where
@@ -180,17 +207,18 @@ handedOut (a ∷ as′) = cond (isNew (a .call)) (cond (isNought (a .status)) 1 
 abbrev pub freeCells : Lent → ℕ
 freeCells r = times 3 (r .kinds)
 
--- in these rows v holds a cell with both fields nothing: kinds and values 0
-pub record HoldsBlank (r : Lent) (v : ℕ) : Type 0 where
-  pub cell : ℕ
-  pub held : getD (r .variables) v (negsuc 0) ≡ pos cell
-  pub kinds : (kind (r .kinds) cell 0 ≡ 0) × (kind (r .kinds) cell 1 ≡ 0)
-  pub values : (word (r .values) cell 0 ≡ pos 0) × (word (r .values) cell 1 ≡ pos 0)
+-- in these rows v holds the cell a, with both fields nothing: kinds and values 0
+pub record HoldsBlank (r : Lent) (v a : ℕ) : Type 0 where
+  pub held : getD (r .variables) v (negsuc 0) ≡ pos a
+  pub kinds : (kind (r .kinds) a 0 ≡ 0) × (kind (r .kinds) a 1 ≡ 0)
+  pub values : (word (r .values) a 0 ≡ pos 0) × (word (r .values) a 1 ≡ pos 0)
 
 -- of one batch
 pub record BatchSettles (h : Head) (r : Lent) (b : Batch) (o : Batched) : Type 0 where
   -- what the rules give: tables, free list, fields, answers and count
   pub by-the-rules : (cs : List Call) → Asks h b cs → Accepted o → o ≡ accepted h r cs (b .answers)
+  -- the sizes stay
+  pub sizes-stay : Accepted o → o .outcome .head .sizes ≡ h .sizes
   -- an accepted batch leaves a sound heap, which is never refused with 4
   pub batch-sound : Accepted o → Sized (o .outcome .head) (o .rows) × Sound (o .outcome .head) (o .rows)
   pub exact-below-cap : Accepted o → ExactBelowCap (o .outcome .head) (o .rows)
@@ -198,6 +226,9 @@ pub record BatchSettles (h : Head) (r : Lent) (b : Batch) (o : Batched) : Type 0
   pub frees-all : Accepted o → (j : ℕ) → j < o .outcome .head .zct → heldAmong (h .sizes .n) (o .rows .variables) (getD (o .rows .tables .zct) j 0) (h .sizes .m) ≡ true
   -- and no others: each cell that it frees was, at its turn, in ZCT, held by no variable, the smallest such, and without a pointer from any cell
   pub frees-exactly : (cs : List Call) → Asks h b cs → Accepted o → FreesExactly (h .sizes) (moment h r cs) (o .rows)
+  -- the cells at the cap are those that the replayed log brings there (the others have their exact number)
+  pub at-the-cap : (cs : List Call) → Asks h b cs → Accepted o → (a : ℕ)
+      → AtCap (o .outcome .head) (o .rows .tables) a ↔ (countIn a (replayed (h .sizes .cap) (moment h r cs) .tables .mrt) ≡ h .sizes .cap)
   -- a count at the cap stays
   pub cap-stays : Accepted o → (a : ℕ) → AtCap h (r .tables) a → AtCap (o .outcome .head) (o .rows .tables) a
   -- a structure that points to itself is not reclaimed: such cells stay in use
@@ -206,11 +237,8 @@ pub record BatchSettles (h : Head) (r : Lent) (b : Batch) (o : Batched) : Type 0
   pub count-is-freed : (cs : List Call) → Asks h b cs → Accepted o → freeCells r + o .outcome .count ≡ freeCells (o .rows) + handedOut (said cs (o .answers))
   -- the sum over all settles, those before calls too, of the cells in use before less those in use after
   pub count-is-sum : (cs : List Call) → Asks h b cs → Accepted o → o .outcome .count ≡ freedIn (h .sizes) cs (unfreed (heapOf h r))
-  -- free cells are handed out again: a new takes the first
-  pub handed-out-again : (v : ℕ) → Asks h b (New v ∷ []) → Accepted o → h .free < h .sizes .n
-      → (statusAt o [] ≡ pos 0) × (getD (o .rows .variables) v (negsuc 0) ≡ pos (h .free))
-  -- with both fields nothing, whatever they held before
-  pub handed-out-blank : (cs : List Call) (v : ℕ) → Asks h b (cs ++ New v ∷ []) → Accepted o → statusAt o cs ≡ pos 0 → HoldsBlank (o .rows) v
+  -- free cells are handed out again: a new takes the first one after its settle, with both fields nothing, whatever they held before
+  pub handed-out-again : (cs : List Call) (v : ℕ) → Asks h b (cs ++ New v ∷ []) → Accepted o → statusAt o cs ≡ pos 0 → HoldsBlank (o .rows) v (settledFor (h .sizes) (New v) (moment h r cs) .first)
 
 -- of two batches on the same rows: b, that left o, and c, that left p
 pub record BatchesSettle (h : Head) (r : Lent) (b c : Batch) (o p : Batched) : Type 0 where
@@ -231,9 +259,6 @@ pub record BatchesSettle (h : Head) (r : Lent) (b c : Batch) (o p : Batched) : T
       → (statusAt o cs ≡ pos 14) ↔ (p .outcome .head .free ≡ h .sizes .n)
   -- and then v keeps its cell: v's variable, its cell with both fields, and all else, are what the batch of the calls before leaves
   pub fourteen-keeps : (cs : List Call) (v : ℕ) → Asks h b (cs ++ New v ∷ []) → Asks h c cs → Accepted o → Accepted p → statusAt o cs ≡ pos 14 → SameBut cs (New v ∷ []) [] [] o p
-  -- whatever calls follow: the batch is as the one with the call settle, of value nought, in the place of that new
-  pub fourteen-settles : (cs ds : List Call) (v : ℕ) → Asks h b (cs ++ New v ∷ ds) → Asks h c (cs ++ Settle ∷ ds) → Accepted o → Accepted p → statusAt o cs ≡ pos 14
-      → SameBut cs (New v ∷ []) (Settle ∷ []) ds o p × (valueAt p cs ≡ pos 0)
 
 -- o answered the calls cs, settle and ds; p answered cs, and q, on the rows that p left, ds: o left the head and rows of q, freed what p and q did, and said the same
 pub record EndsThere (cs ds : List Call) (o p q : Batched) : Type 0 where
@@ -245,7 +270,7 @@ pub record EndsThere (cs ds : List Call) (o p q : Batched) : Type 0 where
 
 -- of three batches: b, that left o; c, that left p; and on the rows that it left d, that left q
 abbrev pub SettleEnds : Head → Batch → Batch → Batch → Batched → Batched → Batched → Type 0
-SettleEnds h b c d o p q = (cs ds : List Call) → Asks h b (cs ++ Settle ∷ ds) → Asks h c cs → Asks h d ds → Accepted o → Accepted p → Accepted q → EndsThere cs ds o p q
+SettleEnds h b c d o p q = (cs ds : List Call) → Asks h b (cs ++ Settle ∷ ds) → Asks h c cs → Asks (p .outcome .head) d ds → Accepted o → Accepted p → Accepted q → EndsThere cs ds o p q
 
 pub record Demand2 (H : Heaps) : Type 0 where
   pub batch-settles : (h : Head) (r : Lent) (b : Batch) → BatchSettles h r b (handIn H h r b)

@@ -3,16 +3,16 @@ use Prim.Native.Nat.{ℕ, _+_, _-_, _<_, _≤_}
 use mathlib.Core.Path.{_≡_}
 use mathlib.Core.Logic.{_⊎_, _↔_}
 use mathlib.Core.Bool.{Bool, true, false, cond}
-use mathlib.Core.Option.{Option, some}
+use mathlib.Core.Option.{Option}
 use mathlib.Core.List.{List, [], _∷_}
 use Rattle.rules.specs.declared.Field.{Field}
 use Rattle.rules.specs.declared.Field.the-variants.{Cell, Free}
 use Rattle.rules.specs.declared.Head.{Head}
 use Rattle.rules.specs.declared.Sizes.{Sizes}
 use Rattle.rules.specs.declared.Call.{Call}
-use Rattle.rules.specs.Table.{has}
+use Rattle.rules.specs.Table.{has, countIn}
 use Rattle.rules.specs.Heap.{Heap, field}
-use Rattle.rules.specs.Settle.{holds, pick, reclaim, replayed, settledBy}
+use Rattle.rules.specs.Settle.{holds, reclaim, replayed, settledBy}
 use Rattle.rules.specs.Call.{unless, check}
 use Rattle.rules.specs.Step.{wants, counted, step, unfreed}
 use Rattle.rules.specs.Rows.{Lent, fieldsOf, heapOf}
@@ -33,9 +33,8 @@ moment h r cs = heapAfter (h .sizes) cs (unfreed (heapOf h r))
 unfoldable pub turns : Sizes → List (Option ℕ) → Heap → ℕ → Heap
 turns s hs h k = reclaim (s .cap) hs k (replayed (s .cap) h)
 
--- the cell a is the one that turn k takes: in ZCT, named by none of the holds, the smallest such, and no cell points to it
+-- the cell a is the one that turn k takes: in ZCT, named by none of the holds, and the smallest such; no cell points to it
 pub record Taking (s : Sizes) (hs : List (Option ℕ)) (h : Heap) (k a : ℕ) : Type 0 where
-  pub picked : pick hs (turns s hs h k .tables .zct) ≡ some a
   pub in-zct : has a (turns s hs h k .tables .zct) ≡ true
   pub unheld : holds a hs ≡ false
   pub smallest : (b : ℕ) → has b (turns s hs h k .tables .zct) ≡ true → holds b hs ≡ false → a ≤ b
@@ -47,15 +46,17 @@ pub record Taken (s : Sizes) (hs : List (Option ℕ)) (h : Heap) (a : ℕ) : Typ
   pub within : turn < s .n
   pub taking : Taking s hs h turn a
 
--- a settle of h that counts the holds hs: it frees a cell in use exactly if one of its turns takes it, and that cell is the first free one then; free cells stay
--- free; afterwards one of the holds names each ZCT cell, and a cell not at the cap has its exact number of pointers
+-- a settle of h that counts the holds hs: it frees a cell in use exactly if one of its turns takes it, which is then followed by the cell that was the first
+-- free one; cells that no turn takes keep their fields; afterwards one of the holds names each ZCT cell, a cell not at the cap has its exact number of pointers,
+-- and those at the cap are those that the replayed log brings there
 pub record SettlesRight (s : Sizes) (hs : List (Option ℕ)) (h : Heap) : Type 0 where
   pub frees-only : (a : ℕ) → live (h .shape .fields) a ≡ true → (live (settledBy s hs h .shape .fields) a ≡ false) ↔ Taken s hs h a
-  pub freed-first : (k a : ℕ) → k < s .n → Taking s hs h k a → field (settledBy s hs h .shape .fields) a 0 ≡ Free (turns s hs h k .first)
-  pub stays-free : (a : ℕ) → live (h .shape .fields) a ≡ false → live (settledBy s hs h .shape .fields) a ≡ false
+  pub in-order : (k a : ℕ) → k < s .n → Taking s hs h k a → field (settledBy s hs h .shape .fields) a 0 ≡ Free (turns s hs h k .first)
+  pub others-kept : (a f : ℕ) → f < 2 → (Taken s hs h a → ⊥) → field (settledBy s hs h .shape .fields) a f ≡ field (h .shape .fields) a f
   pub frees-all : (a : ℕ) → has a (settledBy s hs h .tables .zct) ≡ true → holds a hs ≡ true
   pub exact-below-cap : (a : ℕ) → live (settledBy s hs h .shape .fields) a ≡ true
       → (count (settledBy s hs h .tables) a ≡ s .cap) ⊎ (count (settledBy s hs h .tables) a ≡ refs (settledBy s hs h .shape .fields) a)
+  pub at-the-cap : (a : ℕ) → (countIn a (settledBy s hs h .tables .mrt) ≡ s .cap) ↔ (countIn a (replayed (s .cap) h .tables .mrt) ≡ s .cap)
 
 -- ---- how many cells it frees
 
