@@ -16,7 +16,7 @@ use Rattle.rules.specs.Heap.{Tables, Transaction, allocates, creates, de
 use Rattle.rules.specs.Rules.{leaveZct, apply, replay}
 use Rattle.rules.specs.Settle.{pick, onPick, freeCell, reclaim, replayed, settledBy}
 use Rattle.rules.specs.Call.{drops}
-use Rattle.rules.specs.Invariant.{View, view, named, okOf, okV, Good}
+use Rattle.rules.specs.Invariant.{View, view, named, okOf, Good}
 use Rattle.rules.proofs.Tables.{change, view-own, view-other}
 use Rattle.rules.proofs.Sorted.{replay-append}
 use Rattle.rules.proofs.Reclaim.{reclaim-keeps}

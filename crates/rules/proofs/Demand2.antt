@@ -1,15 +1,13 @@
 -- Demand 2 of our heap: tables as the rules give them, exact counts, all and only what may go is freed, 14 exactly when full. Assumes nothing.
-use Prim.Native.Nat.{ℕ, zero, suc, _+_, _*_, _-_, _<_, _≤_}
+use Prim.Native.Nat.{ℕ, zero, suc, _+_, _*_, _-_, _<_}
 use mathlib.Core.Path.{_≡_, refl, sym, ap, ap₂, _∙_, subst}
 use mathlib.Core.Logic.{_↔_}
 use mathlib.Core.Bool.{Bool, true, false}
-use mathlib.Core.Option.{none, some}
+use mathlib.Core.Option.{some}
 use mathlib.Core.List.{List, [], _∷_, _++_, map, append-nil}
 use native.Mathlib.Omega.{arith}
-use lib.ListN.{length, getD, drop, List·getD-map}
-use lib.Seq.{getD-set-same}
-use lib.IntN.{ℤ, pos, negsuc}
-use borrow.Author.Tests.{le-ltb, ne-eqb}
+use lib.ListN.{length, getD, drop}
+use lib.IntN.{ℤ, pos}
 use Rattle.rules.specs.declared.Head.{Head}
 use Rattle.rules.specs.declared.Field.{Field}
 use Rattle.rules.specs.declared.Field.the-variants.{Nothing, Figure, Cell, Free}
@@ -22,14 +20,14 @@ use Rattle.rules.specs.Field.{kindOf, valueOf, fieldOf, variableOf}
 use Rattle.rules.specs.Table.{countIn}
 use Rattle.rules.specs.Heap.{Heap, place, field}
 use Rattle.rules.specs.Settle.{replayed, settled}
-use Rattle.rules.specs.Call.{Answer, AllFit, var, hold}
-use Rattle.rules.specs.Step.{Stepped, Result, full, noneFree, wants, counted, settledIf, settledFor, takeCell, doNew, acted, run, step, calls, unfreed, batch}
+use Rattle.rules.specs.Call.{Answer, AllFit, var}
+use Rattle.rules.specs.Step.{Stepped, Result, full, wants, counted, settledFor, step, calls, unfreed, batch}
 use Rattle.rules.specs.Rows.{Lent, rowsOf, headOf, heapOf}
 use Rattle.rules.specs.Sound.{Sound, Sized, mark, Live, heldAmong, times}
 use Rattle.rules.specs.Refusals.{Batched, answerWords, answered, accepted, auditOf, isSound}
 use Rattle.rules.specs.Run.{ours, Batch, handIn, said, NotSettle}
 use Rattle.rules.specs.Invariant.{live, view, lives, Inv, Ended}
-use Rattle.rules.specs.Moment.{heapAfter, moment, SettlesRight, livesIn, freedIn, PointsToItself}
+use Rattle.rules.specs.Moment.{moment, SettlesRight, livesIn, freedIn, PointsToItself}
 use Rattle.rules.specs.Demands.{Asks, statusAt, valueAt, SameBut, FreesExactly, AtCap, handedOut, freeCells, HoldsBlank, BatchSettles, BatchesSettle, SettleEnds, EndsThere, Demand2}
 use Rattle.rules.proofs.Tests.{sound-true, sound-false}
 use Rattle.rules.proofs.Cells.{live-below}
@@ -41,7 +39,7 @@ use Rattle.rules.proofs.Whole.{twice}
 use Rattle.rules.proofs.Entry.{entry-ended, exit-ended, exit-sized, exit-sound}
 use Rattle.rules.proofs.Demand1.{took, took-some, answers-long, audit-0, audit-4}
 use Rattle.rules.proofs.Facts as facts
-use Rattle.rules.proofs.Inside.{after-both, held-fields, var-settled, row-variable, said-alone, pos-same}
+use Rattle.rules.proofs.Inside.{held-fields, var-settled, row-variable, said-alone, pos-same}
 use Rattle.rules.proofs.Beside.{moment-inv, heap-there, end-there, status-there, value-there, same-as, same-but, then-call, then-none, said-own, said-before, said-after}
 use Rattle.rules.proofs.LetGo.{after-clear, fourteen-cleared, kept-settled}
 use Rattle.rules.proofs.Settles.{calls-on, settle-step, as-settled-before, calls-freed}

@@ -2,30 +2,28 @@
 use Prim.Native.Nat.{ℕ, zero, suc, _<_, _≤_}
 use mathlib.Core.Path.{_≡_, refl, sym, ap, _∙_}
 use mathlib.Core.Bool.{Bool, true, false}
-use mathlib.Core.Option.{Option, none, some}
+use mathlib.Core.Option.{Option}
 use mathlib.Core.List.{List, [], _∷_}
 use native.Mathlib.Omega.{arith}
 use lib.Dec.{eqb}
 use lib.ListN.{length, length-map}
-use borrow.Author.Tests.{eqb-true, eq-eqb}
+use borrow.Author.Tests.{eqb-true}
 use Rattle.rules.specs.declared.Head.{Head}
 use Rattle.rules.specs.declared.Call.{Call}
 use Rattle.rules.specs.declared.Call.the-variants.{New, Do, Settle}
 use Rattle.rules.specs.declared.Sizes.{Sizes}
 use Rattle.rules.specs.Head.{Limits}
 use Rattle.rules.specs.Table.{has, countIn, addresses, counts}
-use Rattle.rules.specs.Heap.{Tables, Transaction, allocates, creates, destroys, Heap, field}
-use Rattle.rules.specs.Rules.{leaveZct, apply, replay}
-use Rattle.rules.specs.Settle.{holds, pick, onPick, freeCell, reclaim, replayed, settledBy, settled}
+use Rattle.rules.specs.Heap.{Tables, Heap, field}
+use Rattle.rules.specs.Settle.{holds, freeCell, replayed, settledBy, settled}
 use Rattle.rules.specs.Call.{unless, check}
 use Rattle.rules.specs.Step.{refused, settledIf, settledFor, noneFree, wants, counted, takeCell, doNew, doDeed, acted, run, step, calls, unfreed, batch}
 use Rattle.rules.specs.Rows.{Lent, rowsOf, headOf, heapOf}
 use Rattle.rules.specs.Whole.{Kept}
 use Rattle.rules.specs.Sound.{Sound, Sized}
-use Rattle.rules.specs.Invariant.{refs, View, view, named, Good, Inv}
+use Rattle.rules.specs.Invariant.{refs, view, Good, Inv}
 use Rattle.rules.specs.Moment.{PointsToItself}
 use Rattle.rules.specs.Demands.{AtCap}
-use Rattle.rules.proofs.Tables.{change, view-own, view-other}
 use Rattle.rules.proofs.Turn.{turn-none, turn-live, turn-field}
 use Rattle.rules.proofs.Reclaim.{reclaim-keeps}
 use Rattle.rules.proofs.Capped.{Capped, settledBy-capped}

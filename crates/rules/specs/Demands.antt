@@ -296,7 +296,7 @@ pub record Demand3 (H : Heaps) : Type 0 where
 
 -- ---- what the entry points' contracts promise is enough
 
--- a heap that is ours in every outcome
+-- two heaps that agree in every outcome
 pub record Contracts (H G : Heaps) : Type 0 where
   pub fresh-as : (s : Sizes) (r : Lent) → H .fresh s r ≡ G .fresh s r
   pub audit-as : (h : Head) (r : Lent) → H .audit h r ≡ G .audit h r

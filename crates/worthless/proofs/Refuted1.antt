@@ -3,16 +3,16 @@ use Prim.Native.Nat.{ℕ}
 use mathlib.Core.Path.{_≡_, refl, sym, ap}
 use mathlib.Core.Bool.{true, false, false≢true}
 use mathlib.Core.Option.{none, some}
-use mathlib.Core.List.{[], _∷_}
+use mathlib.Core.List.{List, [], _∷_}
 use native.Mathlib.Omega.{arith}
-use lib.IntN.{pos, negsuc}
+use lib.IntN.{ℤ, pos, negsuc}
 use lib.ListN.{length, getD}
-use Rattle.rules.specs.declared.Deed.the-variants.{Clear, Link, Follow, Read}
+use Rattle.rules.specs.declared.Deed.the-variants.{Copy, Clear, Link, Put, Follow, Read, Same}
 use Rattle.rules.specs.declared.Call.the-variants.{New, Do, Settle}
 use Rattle.rules.specs.Head.{freshHead}
 use Rattle.rules.specs.Sound.{Sound, Sized, Word}
 use Rattle.rules.specs.Decide.{sound?, sized?, dec-word}
-use Rattle.rules.specs.Run.{Batch}
+use Rattle.rules.specs.Run.{Batch, Said}
 use Rattle.rules.specs.Demands.{TooShort}
 use Rattle.rules.proofs.Tests.{sized-true, sized-false, sound-true, sound-false}
 use Rattle.rules.specs.Rows as R
@@ -23,7 +23,7 @@ use Rattle.rules.specs.Call as C
 use Rattle.rules.specs.Step as T
 use Rattle.rules.specs.Refusals as F
 use Rattle.worthless.specs.Refuted.{Refuted1}
-use Rattle.worthless.proofs.Scenes.{of, sizes, freshRows, h₀, r₀, h₁, r₁, scratched, unsized, unsound, pos-same, not-neg}
+use Rattle.worthless.proofs.Scenes.{of, sizes, freshRows, h₀, r₀, h₁, r₁, h₂, r₂, scratched, unsized, unsound, pos-same, not-neg}
 
 sized₀ : Sized h₀ r₀
 unfolding F.isSized sized?
@@ -63,6 +63,11 @@ short = record { calls = C.wordsOf (Settle ∷ []); answers = [] }
 abbrev roomy : Batch
 roomy = record { calls = []; answers = negsuc 6 ∷ negsuc 6 ∷ [] }
 
+-- the value that the first call was answered with
+abbrev first : List Said → ℤ
+first [] = pos 0
+first (a ∷ as′) = a .value
+
 -- an empty batch has calls, and room for them
 none-short : TooShort h₀ (of []) → ⊥
 unfolding C.callsIn C.callsOf
@@ -97,9 +102,13 @@ refuted-1 =
       refuses-more = λ d. let e : _≡_ {A = ℕ} 5 0 = d .batch-refuses h₀ r₀ (of []) .accepted-else sized₀ (record { calls = []; decoded = refl; room = omega arith }) sound₀ in omega arith;
       leaves-work = λ d. let e : _≡_ {A = ℕ} 1 0 = ap (λ w. getD w 0 0) (d .batch-refuses h₀ r₀ (of []) .work-zero refl) in omega arith;
       writes-past = λ d. not-neg 0 6 (ap (λ w. getD w 0 (pos 0)) (d .batch-refuses h₀ r₀ roomy .answers-past [] refl refl .1));
+      cuts-answers = λ d. let e : _≡_ {A = ℕ} 1 2 = d .batch-refuses h₀ r₀ roomy .answers-past [] refl refl .0 in omega arith;
       fifteen-for-12 = λ d. false≢true (d .batch-refuses h₁ r₁ (of (Do (Follow 0 0 0) ∷ [])) .refused-11-to-15 (Do (Follow 0 0 0) ∷ []) refl refl .0 .0);
       refused-with-value = λ d.
           let e = pos-same 1 0 (d .batch-refuses h₀ r₀ (of (Do (Read 0 0) ∷ [])) .refused-11-to-15 (Do (Read 0 0) ∷ []) refl refl .0 .1) in
+          omega arith;
+      copy-with-value = λ d.
+          let e = pos-same 7 0 (d .batch-refuses h₀ r₀ (of (Do (Copy 0 0) ∷ [])) .refused-11-to-15 (Do (Copy 0 0) ∷ []) refl refl .0 refl) in
           omega arith;
       forgets = λ d. let e : _≡_ {A = ℕ} 0 1 = ap (λ o. o .outcome .head .free) (d .batch-refuses h₁ r₁ (of []) .no-call-no-change refl refl) in omega arith;
       clears-at-15 = λ d.
@@ -111,6 +120,29 @@ refuted-1 =
           d .call-refused (freshHead (sizes 2 2)) (freshRows 2 2) (of (New 0 ∷ Do (Clear 0) ∷ Do (Read 1 0) ∷ New 0 ∷ [])) (of (New 0 ∷ Do (Clear 0) ∷ New 0 ∷ []))
           .refused-as-left-out before (New 0 ∷ []) (Do (Read 1 0)) 10 refl refl refl refl refl (λ e. omega arith) in
           let e = pos-same 0 1 (ap (λ r. getD (r .variables) 0 (pos 0)) (s .same-rows)) in
+          omega arith;
+      answers-after-11 = λ d.
+          let s = d .call-refused h₀ r₀ (of (Do (Read 0 0) ∷ New 0 ∷ [])) (of (New 0 ∷ [])) .refused-as-left-out [] (New 0 ∷ []) (Do (Read 0 0)) 10 refl refl refl refl refl (λ e. omega arith) in
+          let e = pos-same 7 0 (ap first (s .after)) in
+          omega arith;
+      answers-before-11 = λ d.
+          let s = d .call-refused h₀ r₀ (of (Settle ∷ Do (Read 0 0) ∷ [])) (of (Settle ∷ [])) .refused-as-left-out (Settle ∷ []) [] (Do (Read 0 0)) 10 refl refl refl refl refl (λ e. omega arith) in
+          let e = pos-same 7 0 (ap first (s .before)) in
+          omega arith;
+      clears-in-the-middle = λ d.
+          let s = d .call-refused h₂ r₂ (of (New 0 ∷ Do (Same 0 1) ∷ [])) (of (Settle ∷ Do (Same 0 1) ∷ [])) .fourteen-settles [] (Do (Same 0 1) ∷ []) 0 refl refl refl refl refl .0 in
+          not-neg 0 0 (sym (ap (λ r. getD (r .variables) 0 (pos 0)) (s .same-rows)));
+      loses-what-settle-reads = λ d.
+          let s = d .call-refused h₁ r₁ (of (Do (Link 0 0 0) ∷ New 0 ∷ [])) (of (Do (Link 0 0 0) ∷ Settle ∷ [])) .fourteen-settles (Do (Link 0 0 0) ∷ []) [] 0 refl refl refl refl refl .0 in
+          let e : _≡_ {A = ℕ} 1 0 = ap (λ o. o .head .zct) (s .outcomes) in
+          omega arith;
+      settle-one-more-at-14 = λ d.
+          let e = pos-same 1 0 (d .call-refused h₂ r₂ (of (New 0 ∷ [])) (of (Settle ∷ [])) .fourteen-settles [] [] 0 refl refl refl refl refl .1) in
+          omega arith;
+      refuses-links = λ d. let e = pos-same 11 0 (d .call-refused h₁ r₁ (of (Do (Link 0 0 0) ∷ [])) (of []) .deed-answered [] [] (Link 0 0 0) refl refl refl refl .refused-for) in omega arith;
+      read-one-more = λ d.
+          let puts = Do (Put 0 0 (pos 7)) ∷ [] in
+          let e = pos-same 8 7 (d .call-refused h₁ r₁ (of (Do (Put 0 0 (pos 7)) ∷ Do (Read 0 0) ∷ [])) (of puts) .deed-answered puts [] (Read 0 0) refl refl refl refl .value-is refl) in
           omega arith;
       thirteen-for-nothing = λ d.
           let s = d .call-refused h₁ r₁ (of (Do (Read 0 0) ∷ [])) (of []) .fifteen-exactly [] [] 0 0 refl refl refl refl in
@@ -124,6 +156,9 @@ refuted-1 =
           let s = d .call-refused h₀ r₀ (of (Do (Read 0 0) ∷ [])) (of []) .fifteen-exactly [] [] 0 0 refl refl refl refl in
           let e = pos-same 15 11 (s .eleven .1 refl) in
           omega arith;
+      nought-for-11 = λ d.
+          let s = d .call-refused h₀ r₀ (of (Do (Read 0 0) ∷ [])) (of []) .fifteen-exactly [] [] 0 0 refl refl refl refl in
+          not-neg (s .nought .0 refl .cell) 0 (sym (s .nought .0 refl .held));
       fresh-work = λ d. let e : _≡_ {A = ℕ} 1 0 = ap (λ o. getD (o .rows .work) 0 0) (d .fresh-refuses-only-1 (sizes 1 1) scratched .1 scratched-sized) in omega arith;
       fresh-head-kept = λ d. let e : _≡_ {A = ℕ} 1 0 = ap (λ o. o .outcome .head .sizes .n) (d .fresh-refuses-only-1 (sizes 1 1) unsized .0 not-sized) in omega arith;
       audit-work = λ d. let e : _≡_ {A = ℕ} 1 0 = ap (λ o. getD (o .rows .work) 0 0) (d .audit-refuses-only-1-and-4 h₀ scratched .2 scratched-sized scratched-sound) in omega arith;

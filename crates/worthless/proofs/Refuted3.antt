@@ -39,6 +39,10 @@ no-read p = let e = pos-same 10 8 (p .0) in omega arith
 abbrev old : ℤ → R.Lent
 old x = R.lent (1 ∷ 0 ∷ []) (x ∷ pos 0 ∷ []) (negsuc 0 ∷ []) (0 ∷ []) (0 ∷ []) (0 ∷ []) (0 ∷ 0 ∷ 0 ∷ 0 ∷ []) (0 ∷ [])
 
+-- words that are no call
+abbrev wrong : Batch
+wrong = record { calls = pos 1 ∷ []; answers = [] }
+
 abbrev seven : Batch
 seven = of (New 0 ∷ Do (Put 0 0 (pos 7)) ∷ Do (Read 0 0) ∷ [])
 
@@ -57,6 +61,18 @@ refuted-3 =
       figure-in-work = λ d.
           let e : _≡_ {A = ℕ} 7 8 = ap (λ w. getD w 0 0) (d .figures-hidden (sizes 1 1) r₀ r₀ (puts (pos 7) ∷ []) (puts (pos 8) ∷ []) refl refl alike .2 .0 .rows .work) in
           omega arith;
+      figure-in-log = λ d.
+          let e : _≡_ {A = ℕ} 7 8 = ap (λ w. getD w 0 0) (d .figures-hidden (sizes 1 1) r₀ r₀ (puts (pos 7) ∷ []) (puts (pos 8) ∷ []) refl refl alike .2 .0 .rows .log) in
+          omega arith;
+      figure-in-zct = λ d.
+          let e : _≡_ {A = ℕ} 7 8 = ap (λ t. getD (t .zct) 0 0) (d .figures-hidden (sizes 1 1) r₀ r₀ (puts (pos 7) ∷ []) (puts (pos 8) ∷ []) refl refl alike .2 .0 .rows .tables) in
+          omega arith;
+      figure-in-variable = λ d.
+          let e = pos-same 7 8 (ap (λ w. getD w 0 (pos 0)) (d .figures-hidden (sizes 1 1) r₀ r₀ (puts (pos 7) ∷ []) (puts (pos 8) ∷ []) refl refl alike .2 .0 .rows .variables)) in
+          omega arith;
+      figure-in-kind = λ d.
+          let e : _≡_ {A = ℕ} 7 8 = ap (λ w. getD w 1 0) (d .figures-hidden (sizes 1 1) r₀ r₀ (puts (pos 7) ∷ []) (puts (pos 8) ∷ []) refl refl alike .2 .0 .rows .kinds) in
+          omega arith;
       figure-in-field = λ d.
           let e = pos-same 7 8 (d .figures-hidden (sizes 1 1) r₀ r₀ (puts (pos 7) ∷ []) (puts (pos 8) ∷ []) refl refl alike .2 .0 .rows .values 1 (λ k. omega arith)) in
           omega arith;
@@ -64,6 +80,10 @@ refuted-3 =
           let e : _≡_ {A = ℕ} 7 8 = ap (λ o. o .count) (d .figures-hidden (sizes 1 1) r₀ r₀ (puts (pos 7) ∷ []) (puts (pos 8) ∷ []) refl refl alike .2 .0 .outcome) in
           omega arith;
       figure-in-fresh = λ d. let e : _≡_ {A = ℕ} 7 8 = ap (λ o. o .count) (d .figures-hidden (sizes 1 1) (old (pos 7)) (old (pos 8)) [] [] refl refl tt .0) in omega arith;
+      figure-in-fresh-row = λ d. let e = pos-same 7 8 (d .figures-hidden (sizes 1 1) (old (pos 7)) (old (pos 8)) [] [] refl refl tt .1 .values 0 (λ k. omega arith)) in omega arith;
+      figure-in-refusal = λ d.
+          let e = pos-same 7 8 (ap (λ w. getD w 0 (pos 0)) (d .figures-hidden (sizes 1 1) r₀ r₀ (puts (pos 7) ∷ wrong ∷ []) (puts (pos 8) ∷ wrong ∷ []) refl refl (alike .0, alike .1, (refl, refl, tt)) .2 .1 .0 .refused (λ k. omega arith))) in
+          omega arith;
       answers-0 = λ d. let e = pos-same 0 7 (d .as-endless (sizes 1 1) r₀ (seven ∷ []) refl .2 .2 .1 tt) in omega arith;
       same-always = λ d. let e = pos-same 1 0 (d .as-endless (sizes 2 2) (freshRows 2 2) (compared ∷ []) refl .2 .2 .1 tt) in omega arith;
       twelve-for-cell = λ d. let e = pos-same 12 0 (d .as-endless (sizes 1 1) r₀ (followed ∷ []) refl .2 .2 .0) in omega arith;

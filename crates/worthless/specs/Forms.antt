@@ -7,7 +7,10 @@ use lib.Dec.{eqb}
 use lib.IntN.{ℤ}
 use Rattle.rules.specs.declared.Head.{Head}
 use Rattle.rules.specs.declared.Sizes.{Sizes}
+use Rattle.rules.specs.declared.Deed.{Deed}
+use Rattle.rules.specs.declared.Deed.the-variants.{Copy, Clear, Link, Put, Blank, Follow, Read, Same}
 use Rattle.rules.specs.declared.Call.{Call}
+use Rattle.rules.specs.declared.Call.the-variants.{New, Do, Settle}
 use Rattle.rules.specs.Heap.{Heap}
 use Rattle.rules.specs.Call.{Answer, unless, check, callsIn}
 use Rattle.rules.specs.Step.{Stepped, refused, wants, counted, acted, Result, batch}
@@ -51,20 +54,46 @@ withVariables v r = lent (r .kinds) (r .values) v (r .tables .zct) (r .tables .m
 abbrev pub withValues : List ℤ → Lent → Lent
 withValues x r = lent (r .kinds) x (r .variables) (r .tables .zct) (r .tables .mrt) (r .tables .counts) (r .log) (r .work)
 
+abbrev pub withKinds : List ℕ → Lent → Lent
+withKinds k r = lent k (r .values) (r .variables) (r .tables .zct) (r .tables .mrt) (r .tables .counts) (r .log) (r .work)
+
+abbrev pub withZct : List ℕ → Lent → Lent
+withZct z r = lent (r .kinds) (r .values) (r .variables) z (r .tables .mrt) (r .tables .counts) (r .log) (r .work)
+
 -- ---- answers changed
 
--- each call's answer through a function of the call and the rows left; past the last call they stay
+-- all answers through a function of the rows left and the calls; past the last call they stay
+abbrev pub answersLeft : (Lent → List Call → List Answer → List Answer) → Head → Lent → Option (List Call) → List ℤ → Batched → Batched
+answersLeft f h r none row o = o
+answersLeft f h r (some cs) row o = leavesWith (o .outcome) (o .rows) (answered (f (o .rows) cs (batch (h .sizes) cs (heapOf h r) .answers)) row)
+
+abbrev pub sayingAll : (Lent → List Call → List Answer → List Answer) → Heaps
+sayingAll f = withBatch (λ h r ws row. let o = batchOf h r ws row in cond (eqb (o .outcome .status) 0) (answersLeft f h r (callsIn (h .sizes .m) ws) row o) o)
+
+-- each call's answer through a function
 abbrev pub each : (Call → Answer → Answer) → List Call → List Answer → List Answer
 each f [] as′ = []
 each f (c ∷ cs) [] = []
 each f (c ∷ cs) (a ∷ as′) = f c a ∷ each f cs as′
 
-abbrev pub answering : (Lent → Call → Answer → Answer) → Head → Lent → Option (List Call) → List ℤ → Batched → Batched
-answering f h r none row o = o
-answering f h r (some cs) row o = leavesWith (o .outcome) (o .rows) (answered (each (f (o .rows)) cs (batch (h .sizes) cs (heapOf h r) .answers)) row)
-
 abbrev pub saying : (Lent → Call → Answer → Answer) → Heaps
-saying f = withBatch (λ h r ws row. let o = batchOf h r ws row in cond (eqb (o .outcome .status) 0) (answering f h r (callsIn (h .sizes .m) ws) row o) o)
+saying f = sayingAll (λ r. each (f r))
+
+-- which call it is, by its number in the list of calls
+abbrev pub deedNumber : Deed → ℕ
+deedNumber (Copy v w) = 2
+deedNumber (Clear v) = 3
+deedNumber (Link v f w) = 4
+deedNumber (Put v f x) = 5
+deedNumber (Blank v f) = 6
+deedNumber (Follow v f w) = 7
+deedNumber (Read v f) = 8
+deedNumber (Same v w) = 9
+
+abbrev pub operation : Call → ℕ
+operation (New v) = 1
+operation (Do d) = deedNumber d
+operation Settle = 10
 
 -- ---- calls worked otherwise
 

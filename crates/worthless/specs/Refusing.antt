@@ -1,10 +1,10 @@
 -- Heaps that cheat at what they refuse. Assumes nothing.
-use Prim.Native.Nat.{ℕ}
-use mathlib.Core.Bool.{cond}
-use mathlib.Core.List.{[]}
+use Prim.Native.Nat.{ℕ, _-_}
+use mathlib.Core.Bool.{Bool, false, cond, _||_}
+use mathlib.Core.List.{List, [], _∷_}
 use lib.Dec.{eqb}
 use lib.IntN.{pos}
-use lib.ListN.{length, replicate}
+use lib.ListN.{length, take, replicate}
 use Rattle.rules.specs.declared.Sizes.{Sizes}
 use Rattle.rules.specs.declared.Deed.the-variants.{Copy, Clear, Link, Put, Blank, Follow, Read, Same}
 use Rattle.rules.specs.declared.Call.{Call}
@@ -12,12 +12,12 @@ use Rattle.rules.specs.declared.Call.the-variants.{New, Do, Settle}
 use Rattle.rules.specs.Head.{freshHead}
 use Rattle.rules.specs.Heap.{Heap}
 use Rattle.rules.specs.Settle.{settled}
-use Rattle.rules.specs.Call.{answer}
-use Rattle.rules.specs.Step.{Stepped, step, fresh}
+use Rattle.rules.specs.Call.{Answer, answer}
+use Rattle.rules.specs.Step.{Stepped, refused, step, fresh}
 use Rattle.rules.specs.Rows.{rowsOf}
 use Rattle.rules.specs.Refusals.{outcome, leaves, leavesWith, cleared, freshOf, auditOf, batchOf}
 use Rattle.rules.specs.Run.{Heaps}
-use Rattle.worthless.specs.Forms.{withFresh, withAudit, withBatch, whereSaid, withRows, withStatus, withWork, withVariables, saying, callsBy, working}
+use Rattle.worthless.specs.Forms.{withFresh, withAudit, withBatch, whereSaid, withRows, withStatus, withWork, withVariables, operation, sayingAll, saying, callsBy, working}
 
 -- ---- a batch
 
@@ -49,6 +49,10 @@ leavesWork = whereSaid 0 (withRows (λ r. withWork (replicate (length (r .work))
 abbrev pub writesPast : Heaps
 writesPast = withBatch (λ h r ws row. let o = batchOf h r ws row in cond (eqb (o .outcome .status) 0) (batchOf h r ws (replicate (length row) (pos 0))) o)
 
+-- the answers row is cut after the last call
+abbrev pub cutsAnswers : Heaps
+cutsAnswers = withBatch (λ h r ws row. let o = batchOf h r ws row in cond (eqb (o .outcome .status) 0) (leavesWith (o .outcome) (o .rows) (take (length row - 1) (o .answers))) o)
+
 -- everything is forgotten: a fresh heap is left, answers are ours
 abbrev pub forgets : Heaps
 forgets =
@@ -75,6 +79,10 @@ fifteenForCell = saysFor 15 13
 abbrev pub fifteenForEleven : Heaps
 fifteenForEleven = saysFor 15 11
 
+-- 0 for 11
+abbrev pub noughtForEleven : Heaps
+noughtForEleven = saysFor 0 11
+
 -- a follow that answers 15
 abbrev pub fifteenForTwelve : Heaps
 fifteenForTwelve = saysFor 15 12
@@ -82,6 +90,33 @@ fifteenForTwelve = saysFor 15 12
 -- a refused call has a value
 abbrev pub refusedWithValue : Heaps
 refusedWithValue = saying (λ r c a. answer (a .status) (cond (eqb (a .status) 11) (pos 1) (a .value)))
+
+-- a copy has a value
+abbrev pub copyWithValue : Heaps
+copyWithValue = saying (λ r c a. cond (eqb (operation c) 2) (answer (a .status) (pos 7)) a)
+
+-- the answers after a call refused with 11 are others, or those before it
+abbrev pub changedAfter : Bool → List Answer → List Answer
+changedAfter b [] = []
+changedAfter b (a ∷ as′) = cond b (answer (a .status) (pos 7)) a ∷ changedAfter (b || eqb (a .status) 11) as′
+
+abbrev pub answersAfterEleven : Heaps
+answersAfterEleven = sayingAll (λ r cs as′. changedAfter false as′)
+
+abbrev pub anyEleven : List Answer → Bool
+anyEleven [] = false
+anyEleven (a ∷ as′) = eqb (a .status) 11 || anyEleven as′
+
+abbrev pub changedBefore : List Answer → List Answer
+changedBefore [] = []
+changedBefore (a ∷ as′) = cond (anyEleven as′) (answer (a .status) (pos 7)) a ∷ changedBefore as′
+
+abbrev pub answersBeforeEleven : Heaps
+answersBeforeEleven = sayingAll (λ r cs as′. changedBefore as′)
+
+-- every link is refused with 11
+abbrev pub refusesLinks : Heaps
+refusesLinks = working (callsBy (λ s c h. cond (eqb (operation c) 4) (refused h 11) (step s c h)) settled)
 
 -- the variable that a refused call names first
 abbrev pub named : Call → ℕ
@@ -129,6 +164,10 @@ auditWorkAtFour = withAudit (λ h r. let o = auditOf h r in cond (eqb (o .outcom
 -- one that clears it at 1
 abbrev pub auditClearsAtOne : Heaps
 auditClearsAtOne = withAudit (λ h r. let o = auditOf h r in cond (eqb (o .outcome .status) 1) (leaves (o .outcome) (cleared h r)) o)
+
+-- one that says no to all
+abbrev pub auditNo : Heaps
+auditNo = withAudit (λ h r. let o = auditOf h r in cond (eqb (o .outcome .status) 0) (leaves (outcome 4 h 0) (o .rows)) o)
 
 -- one that says yes to all
 abbrev pub auditYes : Heaps

@@ -1,27 +1,31 @@
 -- Heaps that cheat at a settle, at its count, or at a new. Assumes nothing.
-use Prim.Native.Nat.{ℕ, zero, suc, _-_}
+use Prim.Native.Nat.{ℕ, zero, suc, _*_, _-_}
 use mathlib.Core.Bool.{Bool, true, false, cond, not, _&&_}
 use mathlib.Core.Option.{Option, none, some}
 use mathlib.Core.List.{List, [], _∷_, _++_, map}
 use lib.Dec.{eqb, ltb}
-use lib.IntN.{pos}
-use lib.ListN.{drop}
+use lib.IntN.{pos, negsuc}
+use lib.ListN.{getD, set, drop}
 use Rattle.rules.specs.declared.Field.{Field}
 use Rattle.rules.specs.declared.Field.the-variants.{Nothing, Figure, Cell, Free}
 use Rattle.rules.specs.declared.Sizes.{Sizes}
 use Rattle.rules.specs.declared.Deed.the-variants.{Clear}
 use Rattle.rules.specs.declared.Call.{Call}
 use Rattle.rules.specs.declared.Call.the-variants.{New, Do, Settle}
-use Rattle.rules.specs.Heap.{Tables, allocates, destroys, Heap, field, store}
-use Rattle.rules.specs.Rules.{leaveZct, enterMrt}
-use Rattle.rules.specs.Settle.{holds, pick, onPick, freeCell, replayed, settledBy, settled}
+use Rattle.rules.specs.Head.{sized}
+use Rattle.rules.specs.Field.{addressOf}
+use Rattle.rules.specs.Table.{countIn}
+use Rattle.rules.specs.Heap.{Tables, Transaction, allocates, creates, destroys, Heap, field, store}
+use Rattle.rules.specs.Rules.{enterZct, leaveZct, enterMrt, leaveMrt, apply}
+use Rattle.rules.specs.Settle.{holds, pick, onPick, freeCell, reclaim, replayed, settledBy, settled}
 use Rattle.rules.specs.Call.{var, check, sameCell, unless, hold}
 use Rattle.rules.specs.Step.{Stepped, done, refused, noneFree, wants, counted, settledIf, settledFor, after, acted, Result, step, unfreed}
 use Rattle.rules.specs.Invariant.{live, lives}
 use Rattle.rules.specs.Sound.{pointersTo}
-use Rattle.rules.specs.Refusals.{outcome}
+use Rattle.rules.specs.Refusals.{outcome, leavesWith}
+use Rattle.rules.specs.Rows.{Lent}
 use Rattle.rules.specs.Run.{Heaps}
-use Rattle.worthless.specs.Forms.{whereSaid, withRows, withLog, withCounts, callsBy, working, stepBy, settling}
+use Rattle.worthless.specs.Forms.{whereSaid, withRows, withLog, withCounts, withVariables, withValues, withKinds, callsBy, working, stepBy, settling}
 
 -- ---- what a settle frees
 
@@ -60,6 +64,21 @@ pinned s hs h =
 
 abbrev pub pinsAtTheCap : Heaps
 pinsAtTheCap = settling pinned
+
+-- cells with one pointer too: a count of 2 that is lowered comes to none
+abbrev pub lowered : ℕ → Transaction → Tables → Tables
+lowered cap (allocates a) t = apply cap (allocates a) t
+lowered cap (creates a) t = apply cap (creates a) t
+lowered cap (destroys a) t = cond (eqb (countIn a (t .mrt)) 2) (enterZct a (leaveMrt a t)) (apply cap (destroys a) t)
+
+abbrev pub replayLow : ℕ → List Transaction → Tables → Tables
+replayLow cap [] t = t
+replayLow cap (x ∷ xs) t = replayLow cap xs (lowered cap x t)
+
+abbrev pub freesPointedTo : Heaps
+freesPointedTo =
+    settling (λ s hs h.
+    reclaim (s .cap) hs (s .n) (record { shape = h .shape; first = h .first; tables = replayLow (s .cap) (h .log) (h .tables); log = []; freed = h .freed }))
 
 -- held cells too, and then no variable holds them
 abbrev pub stillHeld : List Field → List (Option ℕ) → List (Option ℕ)
@@ -118,16 +137,54 @@ abbrev pub countsOneMore : Heaps
 countsOneMore = whereSaid 0 (λ o. withRows (λ r. withCounts (map (λ c. cond (ltb 0 c && ltb c (o .outcome .head .sizes .cap)) (suc c) c) (r .tables .counts)) r) o)
 
 -- a count at the cap, counted anew
-abbrev pub recount : ℕ → ℕ → (ℕ → ℕ) → List ℕ → List ℕ → List ℕ
-recount n cap count [] cs = []
-recount n cap count (a ∷ as′) [] = []
-recount n cap count (a ∷ as′) (c ∷ cs) = cond (eqb c cap && ltb 1 (count a)) (count a) c ∷ recount n cap count as′ cs
+abbrev pub recount : ℕ → (ℕ → ℕ) → List ℕ → List ℕ → List ℕ
+recount cap count [] cs = []
+recount cap count (a ∷ as′) [] = []
+recount cap count (a ∷ as′) (c ∷ cs) = cond (eqb c cap && ltb 1 (count a) && ltb (count a) cap) (count a) c ∷ recount cap count as′ cs
 
 abbrev pub countsAnew : Heaps
 countsAnew =
     whereSaid 0 (λ o.
     let s = o .outcome .head .sizes in
-    withRows (λ r. withCounts (recount (s .n) (s .cap) (pointersTo (s .n) (r .kinds) (r .values)) (r .tables .mrt) (r .tables .counts)) r) o)
+    withRows (λ r. withCounts (recount (s .cap) (pointersTo (s .n) (r .kinds) (r .values)) (r .tables .mrt) (r .tables .counts)) r) o)
+
+-- every count is at the cap
+abbrev pub capsEarly : Heaps
+capsEarly = whereSaid 0 (λ o. withRows (λ r. withCounts (map (λ c. cond (ltb 0 c) (o .outcome .head .sizes .cap) c) (r .tables .counts)) r) o)
+
+-- another cap in the head
+abbrev pub changesCap : Heaps
+changesCap =
+    whereSaid 0 (λ o.
+    let h = o .outcome .head in
+    let s = h .sizes in
+    leavesWith (outcome 0 (record { sizes = sized (s .n) (s .m) (s .l) 255; free = h .free; zct = h .zct; mrt = h .mrt }) (o .outcome .count)) (o .rows) (o .answers))
+
+-- the first two cells of the free list change places
+abbrev pub turned : ℕ → ℕ → Lent → Lent
+turned a b r = withValues (set (set (r .values) (2 * a) (getD (r .values) (2 * b) (pos 0))) (2 * b) (pos a)) r
+
+abbrev pub turnsFreeList : Heaps
+turnsFreeList =
+    whereSaid 0 (λ o.
+    let h = o .outcome .head in
+    let s = h .sizes in
+    let b = addressOf (s .n) (getD (o .rows .values) (2 * h .free) (pos 0)) in
+    cond (ltb (h .free) (s .n) && ltb b (s .n))
+    (leavesWith (outcome 0 (record { sizes = s; free = b; zct = h .zct; mrt = h .mrt }) (o .outcome .count)) (turned (h .free) b (o .rows)) (o .answers))
+    o)
+
+-- a figure in field 1 of cell 1 is lost
+abbrev pub losesFigure : Heaps
+losesFigure = whereSaid 0 (withRows (λ r. cond (eqb (getD (r .kinds) 3 0) 1) (withKinds (set (r .kinds) 3 0) (withValues (set (r .values) 3 (pos 0)) r)) r))
+
+-- variable 1 lets go
+abbrev pub letsGo : Heaps
+letsGo = whereSaid 0 (withRows (λ r. withVariables (set (r .variables) 1 (negsuc 0)) r))
+
+-- a value beside nothing, in field 1 of cell 0
+abbrev pub valueBesideNothing : Heaps
+valueBesideNothing = whereSaid 0 (withRows (λ r. cond (eqb (getD (r .kinds) 1 0) 0) (withValues (set (r .values) 1 (pos 7)) r) r))
 
 -- the count of the last settle alone
 abbrev pub countsLast : Heaps

@@ -1,1 +1,2 @@
-// Heaps that cheat, as statements and proofs alone: specs/Worthless says what each does, proofs/Worthless which fact of the demands it breaks.
+// Heaps that cheat, as statements and proofs alone: what each does (specs/Refusing, Settling, Answering) and which fact of the demands it
+// breaks (specs/Refuted).
