@@ -1,5 +1,5 @@
 -- Document 01 as definitions, in its order: read these beside it. Lending: the rows as a contract names them. Invariant: what holds in the middle of a
--- batch. Decide: that soundness is decided. After Run: the letter, and what shows that its statements have teeth.
+-- batch. Moment: words for what happens there. Decide: that soundness is decided. After Run: the letter, and worked cases.
 pub mod Head
 pub mod Field
 pub mod Table
