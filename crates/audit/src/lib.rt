@@ -1,8 +1,10 @@
 // Is a heap sound? The rows may hold anything.
+#![tactic(auto)]
+
 ghost use Rattle.std.specs.Prelude.{◌≡◌, ◌≤◌, length, replicate};
 ghost use Rattle.rules.specs.Head.{Says, Within};
 ghost use Rattle.rules.specs.Rows.{row_lengths};
-ghost use Rattle.rules.specs.Lending.{tables_now, table_entries, rows_now, entries, exits};
+ghost use Rattle.rules.specs.Lending.{tables_now, rows_now};
 ghost use Rattle.rules.specs.Sound.{CellsSound, TablesSound, FreeList, pointers_to, Agree, ZctHeld, Lengths, Sized, Sound};
 ghost use Rattle.rules.specs.Refusals.{outcome, leaves, audit_of};
 ghost use Rattle.checks.specs.CellRows.{CellRows};
@@ -28,8 +30,8 @@ fn cells_sound(kinds: &[u8], values: &[i32], variables: &[i32], n: usize) -> boo
 
 // Are the tables' rows as they are to be?
 fn tables_sound(head: Head, kinds: &[u8], zct: &[u32], mrt: &[u32], counts: &[u32]) -> bool
-    requires { TablesFit head kinds.now (tables_now zct mrt counts) }
-    ensures { Says result (TablesSound head kinds.now (table_entries zct mrt counts)) }
+    requires { TablesFit head kinds.now (tables_now zct.now mrt.now counts.now) }
+    ensures { Says result (TablesSound head kinds.now (tables_now zct.now mrt.now counts.now)) }
 {
     let n = head.sizes.n;
     if !table(kinds, n, zct, head.zct) {
@@ -56,8 +58,8 @@ fn pointers_sound(
 ) -> bool
     requires cell_rows { CellRows head.sizes.n kinds.now values.now }
     requires work_len { length work.old ≡ head.sizes.n }
-    requires tables_fit { TablesFit head kinds.now (tables_now zct mrt counts) × TablesSound head kinds.now (tables_now zct mrt counts) }
-    ensures { Says result (Agree head kinds.now (table_entries zct mrt counts) (pointers_to head.sizes.n kinds.now values.now)) }
+    requires tables_fit { TablesFit head kinds.now (tables_now zct.now mrt.now counts.now) × TablesSound head kinds.now (tables_now zct.now mrt.now counts.now) }
+    ensures { Says result (Agree head kinds.now (tables_now zct.now mrt.now counts.now) (pointers_to head.sizes.n kinds.now values.now)) }
 {
     clear(work);
     count(kinds, values, head.sizes.n, work);
@@ -99,8 +101,8 @@ fn parts_sound(
     log: &[u32],
     work: &mut [u32],
 ) -> bool
-    requires { Sized head (rows_now kinds values variables zct mrt counts log work) }
-    ensures { Says result (Sound head (entries kinds values variables zct mrt counts log work)) }
+    requires { Sized head (rows_now kinds.now values.now variables.now zct.now mrt.now counts.now log.now work.old) }
+    ensures { Says result (Sound head (rows_now kinds.now values.now variables.now zct.now mrt.now counts.now log.now work.old)) }
 {
     let n = head.sizes.n;
     if !cells_sound(kinds, values, variables, n) {
@@ -136,8 +138,8 @@ pub fn sound(
     log: &[u32],
     work: &mut [u32],
 ) -> bool
-    requires { Sized head (rows_now kinds values variables zct mrt counts log work) }
-    ensures says { Says result (Sound head (entries kinds values variables zct mrt counts log work)) }
+    requires { Sized head (rows_now kinds.now values.now variables.now zct.now mrt.now counts.now log.now work.old) }
+    ensures says { Says result (Sound head (rows_now kinds.now values.now variables.now zct.now mrt.now counts.now log.now work.old)) }
     ensures work_after { work.new ≡ replicate head.sizes.n 0 }
 {
     let yes = parts_sound(head, kinds, values, variables, zct, mrt, counts, log, work);
@@ -198,7 +200,7 @@ pub fn audit(
     log: &[u32],
     work: &mut [u32],
 ) -> Outcome
-    ensures { leaves result (exits kinds values variables zct mrt counts log work) ≡ audit_of head (entries kinds values variables zct mrt counts log work) }
+    ensures { leaves result (rows_now kinds.now values.now variables.now zct.now mrt.now counts.now log.now work.new) ≡ audit_of head (rows_now kinds.now values.now variables.now zct.now mrt.now counts.now log.now work.old) }
 {
     if !sized(
         head,

@@ -1,4 +1,6 @@
 // Before a call, on rows: what refuses it, and how many entries it will log.
+#![tactic(auto)]
+
 ghost use Rattle.std.specs.Prelude.{◌≡◌, cond, ◌&&◌, List, ◌++◌, ℕ, ◌<◌, ◌≤◌, length, get_or, pos};
 ghost use Rattle.std.proofs.Math.Option.{Option, none};
 ghost use Rattle.rules.specs.declared.Deed.TheVariants.{Follow, Read};

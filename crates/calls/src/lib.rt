@@ -1,4 +1,6 @@
 // What a call does, on rows, after the settle before it.
+#![tactic(auto)]
+
 ghost use Rattle.std.specs.Prelude.{◌≡◌, cond, List, ℕ, ◌<◌, ◌≤◌, length, get_or, set, pos};
 ghost use Rattle.std.proofs.Math.Option.{Option, none};
 ghost use Rattle.rules.specs.declared.Call.TheVariants.{Do};
@@ -6,7 +8,7 @@ ghost use Rattle.rules.specs.Heap.{Shape};
 ghost use Rattle.rules.specs.Call.{at as field_at, target, figure_of, same_cell};
 ghost use Rattle.rules.specs.Step.{no_cell_free, do_new, do_deed, acted};
 ghost use Rattle.rules.specs.Whole.{Inside};
-ghost use Rattle.rules.specs.Lending.{call_now, call_entries, call_exits};
+ghost use Rattle.rules.specs.Lending.{call_now};
 ghost use Rattle.cells.specs.Leaves.{held_as};
 ghost use Rattle.before.specs.Seen.{Held, Shown, Reach};
 ghost use Rattle.calls.specs.Doing.{logging, worked, Does, Writes, Links, Follows, Writable, Linkable, Takeable, Able};
@@ -16,7 +18,7 @@ use cells::{add_entry, field_at, held, hold, log_old, put_field, take_free, valu
 use rules::{Call, Deed, Field, Sizes, State};
 
 // A call's answer, and where the batch stands after it.
-#[derive(Drop)]
+#[derive(Clone, Copy)]
 pub struct Worked {
     pub state: State,
     pub status: usize,
@@ -90,8 +92,8 @@ fn write(
     f: usize,
     x: Field,
 ) -> usize
-    requires { Writable n v f x (call_now kinds values variables log) len }
-    ensures { Writes n v f x (call_entries kinds values variables log) len (call_exits kinds values variables log) result }
+    requires { Writable n v f x (call_now kinds.old values.old variables.now log.old) len }
+    ensures { Writes n v f x (call_now kinds.old values.old variables.now log.old) len (call_now kinds.new values.new variables.now log.new) result }
 {
     let i = 2 * held(variables, v, n) + f;
     let old = field_at(kinds, values, i);
@@ -112,8 +114,8 @@ fn link(
     f: usize,
     w: usize,
 ) -> usize
-    requires { Linkable n v f w (call_now kinds values variables log) len }
-    ensures { Links n v f w (call_entries kinds values variables log) len (call_exits kinds values variables log) result }
+    requires { Linkable n v f w (call_now kinds.old values.old variables.now log.old) len }
+    ensures { Links n v f w (call_now kinds.old values.old variables.now log.old) len (call_now kinds.new values.new variables.now log.new) result }
 {
     let b = held(variables, w, n);
     let l = write(kinds, values, variables, log, n, len, v, f, Field::Cell(b));
@@ -181,8 +183,8 @@ fn take(
     at: State,
     v: usize,
 ) -> Worked
-    requires { Takeable sizes.n v (call_now kinds values variables log) at }
-    ensures { Does sizes (λ h. do_new (no_cell_free sizes h) v h) (call_entries kinds values variables log) at (call_exits kinds values variables log) result }
+    requires { Takeable sizes.n v (call_now kinds.old values.old variables.old log.old) at }
+    ensures { Does sizes (λ h. do_new (no_cell_free sizes h) v h) (call_now kinds.old values.old variables.old log.old) at (call_now kinds.new values.new variables.new log.new) result }
 {
     let n = sizes.n;
     let first = at.first;
@@ -220,8 +222,8 @@ fn do_deed(
     sizes: Sizes,
     at: State,
 ) -> Worked
-    requires { Able sizes (Do deed) (call_now kinds values variables log) at }
-    ensures { Does sizes (do_deed deed) (call_entries kinds values variables log) at (call_exits kinds values variables log) result }
+    requires { Able sizes (Do deed) (call_now kinds.old values.old variables.old log.old) at }
+    ensures { Does sizes (do_deed deed) (call_now kinds.old values.old variables.old log.old) at (call_now kinds.new values.new variables.new log.new) result }
 {
     let n = sizes.n;
     let len = at.len;
@@ -258,8 +260,8 @@ pub fn act(
     at: State,
     freed: usize,
 ) -> Worked
-    requires { Able sizes call (call_now kinds values variables log) at × (freed ≤ 1024) }
-    ensures { Does sizes (acted sizes call freed) (call_entries kinds values variables log) at (call_exits kinds values variables log) result }
+    requires { Able sizes call (call_now kinds.old values.old variables.old log.old) at × (freed ≤ 1024) }
+    ensures { Does sizes (acted sizes call freed) (call_now kinds.old values.old variables.old log.old) at (call_now kinds.new values.new variables.new log.new) result }
 {
     match call {
         Call::New(v) => take(kinds, values, variables, log, sizes, at, v),

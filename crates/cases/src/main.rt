@@ -1,5 +1,7 @@
 // Runs the heap's entry points on the cases of standard input and prints every outcome. tests/model.py says what a line
 // of input is and what is printed, and made the expected output.
+#![tactic(auto)]
+
 mod read;
 mod rows;
 mod show;

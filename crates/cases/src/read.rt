@@ -22,7 +22,7 @@ pub(crate) struct Setup {
 }
 
 // A number that was read, and the place past it.
-#[derive(Drop)]
+#[derive(Clone, Copy)]
 pub(crate) struct Numeral {
     pub(crate) next: usize,
     pub(crate) minus: bool,
@@ -30,7 +30,7 @@ pub(crate) struct Numeral {
 }
 
 // A name that was read: its place among the names of its kind, and the place past it.
-#[derive(Drop)]
+#[derive(Clone, Copy)]
 pub(crate) struct Name {
     pub(crate) next: usize,
     pub(crate) which: usize,

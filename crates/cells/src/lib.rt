@@ -1,4 +1,6 @@
 // Leaves on the rows: a field, a variable, the log, the free list, the marks of what is held, a fresh heap.
+#![tactic(auto)]
+
 ghost use Rattle.std.specs.Prelude.{◌≡◌, List, [], ◌∷◌, ◌++◌, map, ℕ, ◌+◌, ◌*◌, ◌<◌, ◌≤◌, length, get_or, set, replicate, pos, negsuc};
 ghost use Rattle.rules.specs.declared.Field.{Field};
 ghost use Rattle.rules.specs.declared.Field.TheVariants.{Nothing, Free};
@@ -8,7 +10,7 @@ ghost use Rattle.rules.specs.Heap.{Transaction};
 ghost use Rattle.rules.specs.Call.{drops};
 ghost use Rattle.rules.specs.Step.{after, free_from, fresh};
 ghost use Rattle.rules.specs.Rows.{rows_of};
-ghost use Rattle.rules.specs.Lending.{rows_now, exits};
+ghost use Rattle.rules.specs.Lending.{rows_now};
 ghost use Rattle.rules.specs.Sound.{Sized};
 ghost use Rattle.rules.specs.Whole.{Inside, Cells, Logged};
 ghost use Rattle.cells.specs.Leaves.{held_as};
@@ -158,7 +160,7 @@ pub fn log_old(log: &mut [u32], len: usize, old: Field) -> usize
 }
 
 // What an entry of the log says.
-#[derive(Drop)]
+#[derive(Clone, Copy)]
 pub struct Note {
     pub kind: u32,
     pub address: usize,
@@ -271,8 +273,8 @@ pub fn fresh_rows(
     work: &mut [u32],
     sizes: Sizes,
 )
-    requires { Sized (fresh_head sizes) (rows_now kinds values variables zct mrt counts log work) }
-    ensures { exits kinds values variables zct mrt counts log work ≡ rows_of sizes (fresh sizes) }
+    requires { Sized (fresh_head sizes) (rows_now kinds.old values.old variables.old zct.old mrt.old counts.old log.old work.old) }
+    ensures { rows_now kinds.new values.new variables.new zct.new mrt.new counts.new log.new work.new ≡ rows_of sizes (fresh sizes) }
 {
     fresh_cells(kinds, values, sizes.n);
     fill_nothing(variables);

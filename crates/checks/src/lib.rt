@@ -1,7 +1,9 @@
 // Leaves of the audit: what one word, one row or one walk over the rows shows of a sound heap.
+#![tactic(auto)]
+
 ghost use Rattle.std.specs.Prelude.{◌≡◌, ℕ, ◌+◌, ◌*◌, ◌<◌, ◌≤◌, length, get_or, replicate, pos};
 ghost use Rattle.rules.specs.Head.{Says};
-ghost use Rattle.rules.specs.Lending.{tables_now, table_entries};
+ghost use Rattle.rules.specs.Lending.{tables_now};
 ghost use Rattle.rules.specs.Sound.{mark, Live, Mark, WordAt, Words, Variable, Variables, ZeroFrom, TableRow, CountsRow, TablesSound, points_to, At, Agree};
 ghost use Rattle.checks.specs.CellRows.{CellRows, WordIn};
 ghost use Rattle.checks.specs.Walk.{Walked, AllMet};
@@ -230,8 +232,8 @@ pub fn compare(
     work: &[u32],
 ) -> bool
     requires work_len { length work.now ≡ head.sizes.n }
-    requires tables_fit { TablesFit head kinds.now (tables_now zct mrt counts) × TablesSound head kinds.now (tables_now zct mrt counts) }
-    ensures { Says result (Agree head kinds.now (table_entries zct mrt counts) (tallied work.now)) }
+    requires tables_fit { TablesFit head kinds.now (tables_now zct.now mrt.now counts.now) × TablesSound head kinds.now (tables_now zct.now mrt.now counts.now) }
+    ensures { Says result (Agree head kinds.now (tables_now zct.now mrt.now counts.now) (tallied work.now)) }
 {
     let mut z = 0;
     let mut q = 0;

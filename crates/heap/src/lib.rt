@@ -1,6 +1,8 @@
 // The entry points: fresh, audit, batch. No requires, one outcome for each input.
+#![tactic(auto)]
+
 ghost use Rattle.std.specs.Prelude.{◌≡◌};
-ghost use Rattle.rules.specs.Lending.{entries, exits};
+ghost use Rattle.rules.specs.Lending.{rows_now};
 ghost use Rattle.rules.specs.Refusals.{leaves, leaves_with, fresh_of, audit_of, batch_of};
 
 use audit::{answer, sized, sound};
@@ -21,8 +23,8 @@ pub fn fresh(
     log: &mut [u32],
     work: &mut [u32],
 ) -> Outcome
-    ensures { leaves result (exits kinds values variables zct mrt counts log work)
-        ≡ fresh_of sizes (entries kinds values variables zct mrt counts log work) }
+    ensures { leaves result (rows_now kinds.new values.new variables.new zct.new mrt.new counts.new log.new work.new)
+        ≡ fresh_of sizes (rows_now kinds.old values.old variables.old zct.old mrt.old counts.old log.old work.old) }
 {
     let head = Head::fresh(sizes);
     if !sized(
@@ -54,8 +56,8 @@ pub fn audit(
     log: &[u32],
     work: &mut [u32],
 ) -> Outcome
-    ensures { leaves result (exits kinds values variables zct mrt counts log work)
-        ≡ audit_of head (entries kinds values variables zct mrt counts log work) }
+    ensures { leaves result (rows_now kinds.now values.now variables.now zct.now mrt.now counts.now log.now work.new)
+        ≡ audit_of head (rows_now kinds.now values.now variables.now zct.now mrt.now counts.now log.now work.old) }
 {
     audit::audit(head, kinds, values, variables, zct, mrt, counts, log, work)
 }
@@ -74,8 +76,8 @@ pub fn batch(
     calls: &[i32],
     answers: &mut [i32],
 ) -> Outcome
-    ensures { leaves_with result (exits kinds values variables zct mrt counts log work) answers.new
-        ≡ batch_of head (entries kinds values variables zct mrt counts log work) calls.now answers.old }
+    ensures { leaves_with result (rows_now kinds.new values.new variables.new zct.new mrt.new counts.new log.new work.new) answers.new
+        ≡ batch_of head (rows_now kinds.old values.old variables.old zct.old mrt.old counts.old log.old work.old) calls.now answers.old }
 {
     if !sized(
         head,

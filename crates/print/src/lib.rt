@@ -1,4 +1,6 @@
 // Printing on standard output: bytes, and a number after some.
+#![tactic(auto)]
+
 ghost use Rattle.std.specs.Prelude.{◌≡◌, nat_abs};
 
 use libc::STDOUT_FILENO;

@@ -1,11 +1,13 @@
 // The reading of a script line by line: what a line says, its number, and where the next starts.
+#![tactic(auto)]
+
 ghost use Rattle.std.specs.Prelude.{◌≡◌, ◌<◌, ◌≤◌, length};
 ghost use Rattle.reader.specs.Reading.{said_after_lem, read_at, reader_at_lem};
 
 use script::{Line, first_line, later_line, line_at, line_next};
 
 // What a line says, its number, and where the next starts.
-#[derive(Drop)]
+#[derive(Clone, Copy)]
 pub struct Read {
     pub line: Line,
     pub number: usize,
@@ -37,7 +39,7 @@ fn scan(text: &[u8], at: usize, number: usize, m: usize) -> Read
 }
 
 // The reader over the script's text, which keeps its place and its line number: how many lines it has read.
-#[derive(Drop)]
+#[derive(Clone, Copy)]
 pub struct Reader<'a> {
     pub text: &'a [u8],
     pub at: usize,

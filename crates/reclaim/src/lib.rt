@@ -1,9 +1,11 @@
 // Reclaiming: while some ZCT cell is held by no variable, the one with the smallest address is freed.
+#![tactic(auto)]
+
 ghost use Rattle.std.specs.Prelude.{◌≡◌, ◌<◌, length, get_or};
 ghost use Rattle.rules.specs.Rules.{replay};
 ghost use Rattle.rules.specs.Call.{drops};
 ghost use Rattle.rules.specs.Whole.{Inside};
-ghost use Rattle.rules.specs.Lending.{tables_now, table_entries, table_exits, heap_now, heap_entries, heap_exits};
+ghost use Rattle.rules.specs.Lending.{tables_now, heap_now};
 ghost use Rattle.tables.specs.Row.{Tabled, TablesBy};
 ghost use Rattle.reclaim.specs.Reclaiming.{low_to, released, Heaped, FreesOne, Scan, Unheld, Reclaimable, Reclaims};
 
@@ -36,9 +38,9 @@ fn let_go(
     cap: u32,
     f: Field,
 ) -> Used
-    requires tabled { Tabled cap (tables_now zct mrt counts) used }
+    requires tabled { Tabled cap (tables_now zct.old mrt.old counts.old) used }
     requires inside { Inside (length zct.old) f }
-    ensures { TablesBy cap (replay cap (drops f)) (table_entries zct mrt counts) used (table_exits zct mrt counts) result }
+    ensures { TablesBy cap (replay cap (drops f)) (tables_now zct.old mrt.old counts.old) used (tables_now zct.new mrt.new counts.new) result }
 {
     match f {
         Field::Nothing => used,
@@ -59,10 +61,10 @@ fn release(
     x: Field,
     y: Field,
 ) -> Used
-    requires tabled { Tabled cap (tables_now zct mrt counts) used }
+    requires tabled { Tabled cap (tables_now zct.old mrt.old counts.old) used }
     requires p_lt_zct { p < used.zct }
     requires inside { Inside (length zct.old) x × Inside (length zct.old) y }
-    ensures { TablesBy cap (released cap (get_or zct.old p 0) x y) (table_entries zct mrt counts) used (table_exits zct mrt counts) result }
+    ensures { TablesBy cap (released cap (get_or zct.old p 0) x y) (tables_now zct.old mrt.old counts.old) used (tables_now zct.new mrt.new counts.new) result }
 {
     let zused = used.zct;
     let mused = used.mrt;
@@ -73,7 +75,7 @@ fn release(
 }
 
 // Where the reclaiming stands, and an address below which ZCT has only cells that are held.
-#[derive(Drop)]
+#[derive(Clone, Copy)]
 pub struct Turn {
     pub at: State,
     pub low: u32,
@@ -90,9 +92,9 @@ fn free_one(
     cap: u32,
     p: usize,
 ) -> Turn
-    requires heaped { Heaped cap (heap_now kinds values zct mrt counts) at }
+    requires heaped { Heaped cap (heap_now kinds.old values.old zct.old mrt.old counts.old) at }
     requires p_lt_zct { p < at.used.zct }
-    ensures { FreesOne cap (get_or zct.old p 0) (heap_entries kinds values zct mrt counts) at (heap_exits kinds values zct mrt counts) result }
+    ensures { FreesOne cap (get_or zct.old p 0) (heap_now kinds.old values.old zct.old mrt.old counts.old) at (heap_now kinds.new values.new zct.new mrt.new counts.new) result }
 {
     let w = zct[p];
     let a = w as usize;
@@ -141,8 +143,8 @@ pub fn reclaim(
     cap: u32,
     most: usize,
 ) -> State
-    requires { Reclaimable cap (heap_now kinds values zct mrt counts) work.now at most }
-    ensures { Reclaims cap most work.now (heap_entries kinds values zct mrt counts) at (heap_exits kinds values zct mrt counts) result }
+    requires { Reclaimable cap (heap_now kinds.old values.old zct.old mrt.old counts.old) work.now at most }
+    ensures { Reclaims cap most work.now (heap_now kinds.old values.old zct.old mrt.old counts.old) at (heap_now kinds.new values.new zct.new mrt.new counts.new) result }
 {
     let mut turn = Turn { at: at, low: 0 };
     let mut k = 0;

@@ -77,12 +77,12 @@ unfolding refuses
 check_reason (New v) sh = tt
 check_reason (Do (Copy v w)) sh = tt
 check_reason (Do (Clear v)) sh = tt
-check_reason (Do (Link v f w)) sh = want_reason _ (is_held (var sh v) && is_held (var sh w)) _ (refl, omega arith)
-check_reason (Do (Put v f x)) sh = want_reason _ (is_held (var sh v)) _ (refl, omega arith)
-check_reason (Do (Blank v f)) sh = want_reason _ (is_held (var sh v)) _ (refl, omega arith)
-check_reason (Do (Follow v f w)) sh = then_reason _ (is_held (var sh v)) _ (refl, omega arith) (want_reason _ (is_cell (at sh v f)) _ (refl, omega arith))
-check_reason (Do (Read v f)) sh = then_reason _ (is_held (var sh v)) _ (refl, omega arith) (figure_reason (at sh v f))
-check_reason (Do (Same v w)) sh = want_reason _ (is_held (var sh v) && is_held (var sh w)) _ (refl, omega arith)
+check_reason (Do (Link v f w)) sh = want_reason (reasons (Do (Link v f w))) (is_held (var sh v) && is_held (var sh w)) _ (refl, omega arith)
+check_reason (Do (Put v f x)) sh = want_reason (reasons (Do (Put v f x))) (is_held (var sh v)) _ (refl, omega arith)
+check_reason (Do (Blank v f)) sh = want_reason (reasons (Do (Blank v f))) (is_held (var sh v)) _ (refl, omega arith)
+check_reason (Do (Follow v f w)) sh = then_reason (reasons (Do (Follow v f w))) (is_held (var sh v)) _ (refl, omega arith) (want_reason (reasons (Do (Follow v f w))) (is_cell (at sh v f)) _ (refl, omega arith))
+check_reason (Do (Read v f)) sh = then_reason (11 ∷ 13 ∷ 15 ∷ []) (is_held (var sh v)) _ (refl, omega arith) (figure_reason (at sh v f))
+check_reason (Do (Same v w)) sh = want_reason (reasons (Do (Same v w))) (is_held (var sh v) && is_held (var sh w)) _ (refl, omega arith)
 check_reason Settle sh = tt
 
 module _ (s : Sizes) where

@@ -1,6 +1,6 @@
 -- Soundness and sizes are decided: each type below says what is decided, so there is nothing more to believe here. Assumes nothing.
 use Rattle.std.specs.Prelude.{ℕ, zero, suc, ◌+◌, ◌*◌, ◌<◌, ◌≤◌, ◌≡◌, refl, Bool, true, false, cond, List, [], ◌∷◌, eqb, leb, ltb, length, get_or, ℤ, pos, negsuc}
-use Rattle.std.proofs.Common.{sym, ap, ◌∙◌, subst, arith, eqb-true, eq-eqb, ne_eqb, leb-true, leb-false, ltb-true, ltb-false}
+use Rattle.std.proofs.Common.{sym, ap, true≢false, ◌∙◌, subst, arith, eqb-true, eq-eqb, ne_eqb, leb-true, leb-false, ltb-true, ltb-false}
 use Rattle.std.proofs.lemmas.Bool.{eqb-false}
 use Rattle.std.specs.Int.Signed.{mag}
 use Rattle.rules.specs.declared.Head.{Head}
@@ -48,7 +48,7 @@ dec_lt m n = by (ltb m n) (ltb-true m n) (not-lt m n)
 
 abbrev Bool_discrete : (b : Bool) → Dec (b ≡ true)
 Bool_discrete true = yes refl
-Bool_discrete false = no (λ e. let z : ◌≡◌ {A = ℕ} 0 1 = cc in omega arith)
+Bool_discrete false = no (λ e. true≢false (sym e))
 
 pub nought_in : (a : ℕ) → pos a ≡ pos 0 → a ≡ 0
 nought_in a e = cc
@@ -56,12 +56,15 @@ nought_in a e = cc
 pub minus_in : (a : ℕ) → negsuc a ≡ negsuc 0 → a ≡ 0
 minus_in a e = cc
 
+pub signs_apart : (a b : ℕ) → pos a ≡ negsuc b → ⊥
+signs_apart a b e = cc
+
 abbrev nought? : (x : ℤ) → Dec (x ≡ pos 0)
 nought? (pos a) = map_dec (ap pos) (nought_in a) (ℕ_discrete a 0)
-nought? (negsuc a) = no (λ e. let z : ◌≡◌ {A = ℕ} 0 1 = cc in omega arith)
+nought? (negsuc a) = no (λ e. signs_apart 0 a (sym e))
 
 abbrev nothing? : (x : ℤ) → Dec (x ≡ negsuc 0)
-nothing? (pos a) = no (λ e. let z : ◌≡◌ {A = ℕ} 0 1 = cc in omega arith)
+nothing? (pos a) = no (λ e. signs_apart a 0 e)
 nothing? (negsuc a) = map_dec (ap negsuc) (minus_in a) (ℕ_discrete a 0)
 
 abbrev dec_imp : {P Q : Type 0} → Dec P → Dec Q → Dec (P → Q)

@@ -1,10 +1,12 @@
 // The types of the heap: its head, a field, a call, an outcome. What they mean stands in specs/.
+#![tactic(auto)]
+
 ghost use Rattle.std.specs.Prelude.{◌≡◌};
 ghost use Rattle.rules.specs.Head.{sized, fresh_head, Limits, Within, Says};
 
 // What stays the same through a heap's life: cells, variables, log entries, the cap of a count.
 #[repr(C)]
-#[derive(Drop)]
+#[derive(Clone, Copy)]
 pub struct Sizes {
     pub n: usize,
     pub m: usize,
@@ -68,7 +70,7 @@ impl Sizes {
 
 // Beside the rows goes a head by value: the sizes, the first free address, the used lengths of ZCT and MRT.
 #[repr(C)]
-#[derive(Drop)]
+#[derive(Clone, Copy)]
 pub struct Head {
     pub sizes: Sizes,
     pub free: usize,
@@ -106,7 +108,7 @@ impl Head {
 }
 
 // A field holds nothing, a figure, a cell by its address, or a free cell's mark with the next free address.
-#[derive(Drop)]
+#[derive(Clone, Copy)]
 pub enum Field {
     Nothing,
     Figure(i32),
@@ -115,7 +117,7 @@ pub enum Field {
 }
 
 // What a call does but new and settle: it names variables, fields (0 or 1) and figures.
-#[derive(Drop)]
+#[derive(Clone, Copy)]
 pub enum Deed {
     Copy(usize, usize),
     Clear(usize),
@@ -128,7 +130,7 @@ pub enum Deed {
 }
 
 // A call is a new for a variable, one of the eight deeds, or a settle.
-#[derive(Drop)]
+#[derive(Clone, Copy)]
 pub enum Call {
     New(usize),
     Do(Deed),
@@ -136,14 +138,14 @@ pub enum Call {
 }
 
 // The used lengths of the two tables.
-#[derive(Drop)]
+#[derive(Clone, Copy)]
 pub struct Used {
     pub zct: usize,
     pub mrt: usize,
 }
 
 // Where a batch stands: the log's length, the first free address, the used lengths, the cells freed so far.
-#[derive(Drop)]
+#[derive(Clone, Copy)]
 pub struct State {
     pub len: usize,
     pub first: usize,
@@ -153,7 +155,7 @@ pub struct State {
 
 // What an entry point returns: 0 or the number that says no, the head, the cells freed.
 #[repr(C)]
-#[derive(Drop)]
+#[derive(Clone, Copy)]
 pub struct Outcome {
     pub status: usize,
     pub head: Head,

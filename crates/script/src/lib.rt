@@ -1,4 +1,6 @@
 // The reading of a tally script: its lines, the fields of a line, numbers, and what a line says.
+#![tactic(auto)]
+
 ghost use Rattle.std.specs.Prelude.{◌≡◌, [], ◌+◌, ◌≤◌, length, get_or, drop, pos};
 ghost use Rattle.rules.specs.Call.{call_of};
 ghost use Rattle.words.specs.Words.{is_some};
@@ -19,14 +21,14 @@ const MOST: usize = 2147483648;
 const NONE: usize = 2147483649;
 
 // A word of a call, or what is none.
-#[derive(Drop)]
+#[derive(Clone, Copy)]
 pub enum Word {
     Number(i32),
     Wrong,
 }
 
 // What a line says.
-#[derive(Drop)]
+#[derive(Clone, Copy)]
 pub enum Line {
     Heap(usize, usize, usize, usize),
     Call(i32, i32, i32, i32),

@@ -1,8 +1,10 @@
 // A settle: the log's replay, and the reclaiming after it.
+#![tactic(auto)]
+
 ghost use Rattle.std.specs.Prelude.{◌<◌, ◌≡◌, length};
 ghost use Rattle.rules.specs.Call.{Fits};
 ghost use Rattle.rules.specs.Rules.{apply};
-ghost use Rattle.rules.specs.Lending.{tables_now, table_entries, table_exits, rows_now, entries, exits};
+ghost use Rattle.rules.specs.Lending.{tables_now, rows_now};
 ghost use Rattle.tables.specs.Row.{Tabled, TablesBy};
 ghost use Rattle.cells.specs.Log.{transaction};
 ghost use Rattle.settle.specs.Replaying.{Replayable, Replays};
@@ -23,9 +25,9 @@ fn replay_one(
     kind: u32,
     a: usize,
 ) -> Used
-    requires tabled { Tabled cap (tables_now zct mrt counts) used }
+    requires tabled { Tabled cap (tables_now zct.old mrt.old counts.old) used }
     requires a_in_bounds { a < length zct.old }
-    ensures { TablesBy cap (apply cap (transaction kind a)) (table_entries zct mrt counts) used (table_exits zct mrt counts) result }
+    ensures { TablesBy cap (apply cap (transaction kind a)) (tables_now zct.old mrt.old counts.old) used (tables_now zct.new mrt.new counts.new) result }
 {
     let w = a as u32;
     if kind == 1 {
@@ -47,8 +49,8 @@ fn replay(
     used: Used,
     cap: u32,
 ) -> Used
-    requires { Replayable cap log.now len (tables_now zct mrt counts) used }
-    ensures { Replays cap log.now len (table_entries zct mrt counts) used (table_exits zct mrt counts) result }
+    requires { Replayable cap log.now len (tables_now zct.old mrt.old counts.old) used }
+    ensures { Replays cap log.now len (tables_now zct.old mrt.old counts.old) used (tables_now zct.new mrt.new counts.new) result }
 {
     let mut u = used;
     let mut i = 0;
@@ -75,8 +77,8 @@ pub fn settle(
     at: State,
     sizes: Sizes,
 ) -> State
-    requires { Settleable sizes (rows_now kinds values variables zct mrt counts log work) at }
-    ensures { Settles sizes (entries kinds values variables zct mrt counts log work) at (exits kinds values variables zct mrt counts log work) result }
+    requires { Settleable sizes (rows_now kinds.old values.old variables.now zct.old mrt.old counts.old log.old work.old) at }
+    ensures { Settles sizes (rows_now kinds.old values.old variables.now zct.old mrt.old counts.old log.old work.old) at (rows_now kinds.new values.new variables.now zct.new mrt.new counts.new log.new work.new) result }
 {
     let cap = sizes.cap as u32;
     let used = at.used;
@@ -133,8 +135,8 @@ pub fn settle_for(
     at: State,
     sizes: Sizes,
 ) -> State
-    requires { Roomable call sizes (rows_now kinds values variables zct mrt counts log work) at }
-    ensures { MakesRoom call make sizes (entries kinds values variables zct mrt counts log work) at (exits kinds values variables zct mrt counts log work) result }
+    requires { Roomable call sizes (rows_now kinds.old values.old variables.old zct.old mrt.old counts.old log.old work.old) at }
+    ensures { MakesRoom call make sizes (rows_now kinds.old values.old variables.old zct.old mrt.old counts.old log.old work.old) at (rows_now kinds.new values.new variables.new zct.new mrt.new counts.new log.new work.new) result }
 {
     if !make {
         return at;

@@ -1,10 +1,12 @@
 // The rows of the zero count table and of the multireference table.
+#![tactic(auto)]
+
 ghost use Rattle.std.specs.Prelude.{◌≡◌, true, false, [], ◌∷◌, ◌++◌, ◌+◌, ◌-◌, ◌≤◌, ◌<◌, length, take, drop};
 ghost use Rattle.rules.specs.Table.{Ascending, has, pad, insert, remove, count_in};
 ghost use Rattle.rules.specs.Heap.{allocates, creates, destroys};
 ghost use Rattle.rules.specs.Rules.{on_create, on_destroy, apply};
 ghost use Rattle.rules.specs.Whole.{Is};
-ghost use Rattle.rules.specs.Lending.{tables_now, table_entries, table_exits};
+ghost use Rattle.rules.specs.Lending.{tables_now};
 ghost use Rattle.tables.specs.Row.{place, put, cut, Moved, Padded, Listed, MrtRows, Tabled, RowBy, MrtBy, TablesBy, ZctBy};
 
 use rules::Used;
@@ -184,9 +186,9 @@ pub fn create(
     cap: u32,
     a: u32,
 ) -> Used
-    requires tabled { Tabled cap (tables_now zct mrt counts) used }
+    requires tabled { Tabled cap (tables_now zct.old mrt.old counts.old) used }
     requires a_in_bounds { a < length zct.old }
-    ensures { TablesBy cap (apply cap (creates a)) (table_entries zct mrt counts) used (table_exits zct mrt counts) result }
+    ensures { TablesBy cap (apply cap (creates a)) (tables_now zct.old mrt.old counts.old) used (tables_now zct.new mrt.new counts.new) result }
 {
     let zused = used.zct;
     let mused = used.mrt;
@@ -208,9 +210,9 @@ pub fn destroy(
     cap: u32,
     a: u32,
 ) -> Used
-    requires tabled { Tabled cap (tables_now zct mrt counts) used }
+    requires tabled { Tabled cap (tables_now zct.old mrt.old counts.old) used }
     requires a_in_bounds { a < length zct.old }
-    ensures { TablesBy cap (apply cap (destroys a)) (table_entries zct mrt counts) used (table_exits zct mrt counts) result }
+    ensures { TablesBy cap (apply cap (destroys a)) (tables_now zct.old mrt.old counts.old) used (tables_now zct.new mrt.new counts.new) result }
 {
     let zused = used.zct;
     let mused = used.mrt;

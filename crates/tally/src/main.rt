@@ -1,4 +1,6 @@
 // The text program: a script of calls from standard input, run on a heap; its answers and the heap at the end.
+#![tactic(auto)]
+
 ghost use Rattle.std.specs.Prelude.{◌≡◌, ◌+◌, ◌<◌, ◌≤◌, length};
 ghost use Rattle.tally.specs.Place.{Gathered};
 
@@ -18,7 +20,7 @@ const LINES_MOST: usize = 1000000;
 
 // How far a script is read: where the next line starts, the lines read, the calls of the closed batches and of the batch read
 // last, whether no batch was left to read, and whether the last line was bad.
-#[derive(Drop)]
+#[derive(Clone, Copy)]
 struct Place {
     at: usize,
     lines: usize,

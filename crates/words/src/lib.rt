@@ -1,4 +1,6 @@
 // The words of a call: which call four words are, and whether a row of words is calls.
+#![tactic(auto)]
+
 ghost use Rattle.std.specs.Prelude.{◌≡◌, ◌&&◌, ◌+◌, ◌≤◌, length};
 ghost use Rattle.rules.specs.Call.{call_of, given, is_below};
 ghost use Rattle.words.specs.Words.{decoded_as, is_some, call_at, Decides};
@@ -13,7 +15,7 @@ const FIELD: usize = 2;
 const UNUSED: usize = 1;
 
 // What four words are: a call, or none.
-#[derive(Drop)]
+#[derive(Clone, Copy)]
 pub enum Decoded {
     Is(Call),
     Bad,

@@ -1,9 +1,11 @@
 // A batch's calls, worked one after the other, and the settle at its end.
+#![tactic(auto)]
+
 ghost use Rattle.std.specs.Prelude.{◌≡◌, ◌+◌, ◌*◌, ◌≤◌, length};
 ghost use Rattle.rules.specs.Heap.{Heap};
 ghost use Rattle.rules.specs.Step.{needs, wants};
 ghost use Rattle.rules.specs.Whole.{start_of};
-ghost use Rattle.rules.specs.Lending.{rows_now, entries, exits};
+ghost use Rattle.rules.specs.Lending.{rows_now};
 ghost use Rattle.working.specs.Working.{Workable, Works, answering, Runnable, Runs, ended_at};
 
 use before::{check, need};
@@ -46,8 +48,8 @@ fn step(
     sizes: Sizes,
     at: State,
 ) -> Worked
-    requires { Workable sizes words.now (rows_now kinds values variables zct mrt counts log work) at }
-    ensures { Works sizes words.now (entries kinds values variables zct mrt counts log work) at (exits kinds values variables zct mrt counts log work) result }
+    requires { Workable sizes words.now (rows_now kinds.old values.old variables.old zct.old mrt.old counts.old log.old work.old) at }
+    ensures { Works sizes words.now (rows_now kinds.old values.old variables.old zct.old mrt.old counts.old log.old work.old) at (rows_now kinds.new values.new variables.new zct.new mrt.new counts.new log.new work.new) result }
 {
     let found = call_at(words, 0, sizes.m);
     let Decoded::Is(call) = found else {
@@ -133,9 +135,9 @@ pub fn run_batch(
     answers: &mut [i32],
     head: Head,
 ) -> Outcome
-    requires { Runnable head calls.now (rows_now kinds values variables zct mrt counts log work) answers.old }
-    ensures { Runs head calls.now (entries kinds values variables zct mrt counts log work) answers.old
-        (exits kinds values variables zct mrt counts log work) answers.new result }
+    requires { Runnable head calls.now (rows_now kinds.old values.old variables.old zct.old mrt.old counts.old log.old work.old) answers.old }
+    ensures { Runs head calls.now (rows_now kinds.old values.old variables.old zct.old mrt.old counts.old log.old work.old) answers.old
+        (rows_now kinds.new values.new variables.new zct.new mrt.new counts.new log.new work.new) answers.new result }
 {
     let mut at = start(head);
     let mut i = 0;
