@@ -5,7 +5,7 @@ use mir.Facts.{to_z-of_z}
 use Rattle.rules.specs.declared.Call.TheVariants.{New, Do}
 use Rattle.rules.specs.declared.Deed.TheVariants.{Copy, Clear, Link, Put, Blank, Follow, Read, Same}
 use Rattle.rules.specs.Call.{number, call_of}
-use Rattle.words.proofs.Words.{nought, same, word, unused, any_figure, all_are, ap_three, op_is, no_call, given-are}
+use Rattle.words.proofs.Words.{same, word, unused, any_figure, all_are, ap_three, op_is, no_call, given-are}
 use Rattle.words.proofs.call_of.Goals as goal
 
 pub returns-in-1 : goal.returns-in-1
