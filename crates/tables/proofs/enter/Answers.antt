@@ -7,7 +7,7 @@ returns-then-is_at c = enter-there c.requires.listed c.args.a c.find-p.result c.
 
 pub put_at-requires-clause-p_le_used : goal.put_at-requires-clause-p_le_used
 put_at-requires-clause-p_le_used c = (
-  place-fits c.requires.listed c.args.a c.find-p.result c.find-p.ensures,
+  omega (arith, place-fits c.requires.listed c.args.a c.find-p.result c.find-p.ensures),
   enter-room c.requires.listed c.args.a c.find-p.result c.find-p.ensures c.requires.a_in_bounds (sym c.if-is_at.ensures),
 )
 
