@@ -1,4 +1,4 @@
-use Rattle.std.proofs.Common.{◌≡◌, sym, ◌∙◌, pos, to_z, of_z, w32, rules, arith}
+use Rattle.std.proofs.Common.{ℕ, ◌≡◌, sym, ◌∙◌, pos, to_z, of_z, w32, rules, arith}
 use mir.Facts.{to_z_pos}
 use Rattle.script.specs.Text.{fields_of}
 use Rattle.script.specs.Line.{word_of}
@@ -8,25 +8,25 @@ use Rattle.script.proofs.call_line.Goals as goal
 pub returns-in_default : goal.returns-in_default
 returns-in_default c =
     let x = c.args in
-    let o = λ i. word_of x.op i (fields_of x.line.now) in
+    let o = λ (i : ℕ). word_of x.op i (fields_of x.line.now) in
     no-first x.m (pos x.op) (o 1) (o 2) (o 3) (sym c.word_at.ensures ∙ c.in_default.is)
 
 pub returns-in_default-word_at : goal.returns-in_default-word_at
 returns-in_default-word_at c =
     let x = c.args in
-    let o = λ i. word_of x.op i (fields_of x.line.now) in
+    let o = λ (i : ℕ). word_of x.op i (fields_of x.line.now) in
     no_second x.m (pos x.op) (o 1) (o 2) (o 3) _ (sym c.word_at.ensures ∙ c.in-Number.is) (sym c.word_at-2.ensures ∙ c.in_default-word_at.is)
 
 pub returns-in_default-word_at-2 : goal.returns-in_default-word_at-2
 returns-in_default-word_at-2 c =
     let x = c.args in
-    let o = λ i. word_of x.op i (fields_of x.line.now) in
+    let o = λ (i : ℕ). word_of x.op i (fields_of x.line.now) in
     no_third x.m (pos x.op) (o 1) (o 2) (o 3) _ _ (sym c.word_at.ensures ∙ c.in-Number.is) (sym c.word_at-2.ensures ∙ c.in-Number-word_at.is) (sym c.word_at-3.ensures ∙ c.in_default-word_at-2.is)
 
 pub returns-then-is_call : goal.returns-then-is_call
 returns-then-is_call c =
     let x = c.args in
-    let o = λ i. word_of x.op i (fields_of x.line.now) in
+    let o = λ (i : ℕ). word_of x.op i (fields_of x.line.now) in
     let a = c.in-Number.a in
     let b = c.in-Number-word_at.b in
     let d = c.in-Number-word_at-2.c in
@@ -41,7 +41,7 @@ returns-then-is_call c =
 pub returns : goal.returns
 returns c =
     let x = c.args in
-    let o = λ i. word_of x.op i (fields_of x.line.now) in
+    let o = λ (i : ℕ). word_of x.op i (fields_of x.line.now) in
     let a = c.in-Number.a in
     let b = c.in-Number-word_at.b in
     let d = c.in-Number-word_at-2.c in
