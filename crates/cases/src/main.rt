@@ -6,23 +6,35 @@ mod read;
 mod rows;
 mod show;
 
-use libc::STDIN_FILENO;
+use std::io;
+use std::io::{BufWriter, Read, Write};
+
+// So much of standard input is read.
+const BYTES_MOST: u64 = 65536;
 
 // The text line by line.
-fn lines(text: &[u8], calls: &mut [i32], answers: &mut [i32]) {
+fn lines<W: Write>(
+    out: &mut W,
+    text: &[u8],
+    calls: &mut [i32],
+    answers: &mut [i32],
+) -> io::Result<()> {
     let mut s = read::start();
     let mut at = 0;
     while at < text.len() {
         let end = read::next_line(text, at);
-        s = rows::line(&text[at..end], s, calls, answers);
+        s = rows::line(out, &text[at..end], s, calls, answers)?;
         at = end;
     }
+    Ok(())
 }
 
-fn main() {
-    let mut text = io::large_buffer();
-    let n = io::read_full(STDIN_FILENO, &mut text);
+fn main(rt: HostRuntime) -> io::Result<()> {
+    let mut text = Vec::new(rt.alloc());
+    rt.stdin().take(BYTES_MOST).read_to_end(&mut text)?;
+    let mut out = BufWriter::new(rt.alloc(), rt.stdout())?;
     let mut calls = [0i32; 1100];
     let mut answers = [0i32; 600];
-    lines(&text[..n], &mut calls, &mut answers);
+    lines(&mut out, text.as_slice(), &mut calls, &mut answers)?;
+    out.flush()
 }

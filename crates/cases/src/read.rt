@@ -2,6 +2,8 @@
 ghost use Rattle.std.specs.Prelude.{◌≤◌, ◌<◌, length};
 
 use rules::{Head, Sizes};
+use std::io;
+use std::io::Write;
 
 // What goes from line to line: the head, how much of the calls and of the answers is used, and the eight rows with
 // their lengths. A row has room for a heap of one cell too many.
@@ -272,9 +274,9 @@ fn settings(line: &[u8], of_head: bool, out: &mut [usize]) -> bool {
 }
 
 // The line of a line that says nothing known.
-pub(crate) fn unknown(line: &[u8]) {
-    print::text(b"? ");
-    print::text(line);
+pub(crate) fn unknown<W: Write>(out: &mut W, line: &[u8]) -> io::Result<()> {
+    print::text(out, b"? ")?;
+    print::text(out, line)
 }
 
 // The number as a signed word; what has more bits is the least word, -2147483648.
@@ -317,11 +319,11 @@ fn words(line: &[u8], from: usize, out: &mut [i32]) -> usize {
 }
 
 // h n=N m=M l=L cap=C free=F zct=Z mrt=R: a number not given is 0.
-pub(crate) fn head_line(line: &[u8], mut s: Setup) -> Setup {
+pub(crate) fn head_line<W: Write>(out: &mut W, line: &[u8], mut s: Setup) -> io::Result<Setup> {
     let mut w = [0usize; 7];
     if !settings(line, true, &mut w) {
-        unknown(line);
-        return s;
+        unknown(out, line)?;
+        return Ok(s);
     }
     let head = Head {
         sizes: Sizes::plain(w[0], w[1], w[2], w[3]),
@@ -330,15 +332,15 @@ pub(crate) fn head_line(line: &[u8], mut s: Setup) -> Setup {
         mrt: w[6],
     };
     s.head = head;
-    s
+    Ok(s)
 }
 
 // r kinds=K values=V ..: the lengths, 0 where none is given, and rows of zeros.
-pub(crate) fn rows_line(line: &[u8], s: Setup) -> Setup {
+pub(crate) fn rows_line<W: Write>(out: &mut W, line: &[u8], s: Setup) -> io::Result<Setup> {
     let mut w = [0usize; 8];
     if !settings(line, false, &mut w) {
-        unknown(line);
-        return s;
+        unknown(out, line)?;
+        return Ok(s);
     }
     let head = s.head;
     let mut t = start();
@@ -346,7 +348,7 @@ pub(crate) fn rows_line(line: &[u8], s: Setup) -> Setup {
     t.calls = s.calls;
     t.answers = s.answers;
     t.lengths = w;
-    t
+    Ok(t)
 }
 
 // c WORDS.. or c+ WORDS..

@@ -4,6 +4,8 @@ ghost use Rattle.std.specs.Prelude.{◌≤◌};
 use crate::read::Setup;
 use crate::{read, show};
 use rules::{Head, Outcome};
+use std::io;
+use std::io::Write;
 
 // A row's length, at most what the rows hold.
 pub(crate) fn clip(k: usize) -> usize
@@ -13,32 +15,38 @@ pub(crate) fn clip(k: usize) -> usize
 }
 
 // One line, with its end.
-pub(crate) fn line(line: &[u8], s: Setup, calls: &mut [i32], answers: &mut [i32]) -> Setup {
+pub(crate) fn line<W: Write>(
+    out: &mut W,
+    line: &[u8],
+    s: Setup,
+    calls: &mut [i32],
+    answers: &mut [i32],
+) -> io::Result<Setup> {
     if line.len() == 0 {
-        return s;
+        return Ok(s);
     }
     let first = line[0];
     match first {
         b'#' => {
-            print::text(line);
-            s
+            print::text(out, line)?;
+            Ok(s)
         }
-        b'h' => read::head_line(line, s),
-        b'r' => read::rows_line(line, s),
-        b's' => set(line, s),
-        b'c' => read::calls_line(line, s, calls),
-        b'a' => read::answers_line(line, s, answers),
-        b'F' | b'A' | b'B' => run_line(first, s, calls, answers),
-        b'\n' => s,
+        b'h' => read::head_line(out, line, s),
+        b'r' => read::rows_line(out, line, s),
+        b's' => set(out, line, s),
+        b'c' => Ok(read::calls_line(line, s, calls)),
+        b'a' => Ok(read::answers_line(line, s, answers)),
+        b'F' | b'A' | b'B' => run_line(out, first, s, calls, answers),
+        b'\n' => Ok(s),
         _ => {
-            read::unknown(line);
-            s
+            read::unknown(out, line)?;
+            Ok(s)
         }
     }
 }
 
 // s ROW PLACE VALUE
-fn set(line: &[u8], mut s: Setup) -> Setup {
+fn set<W: Write>(out: &mut W, line: &[u8], mut s: Setup) -> io::Result<Setup> {
     let row = read::named(line, 2, false);
     let place = read::number(line, row.next);
     let value = read::number(line, place.next);
@@ -46,12 +54,12 @@ fn set(line: &[u8], mut s: Setup) -> Setup {
     let i = place.size;
     let k = s.lengths;
     if 8 <= which {
-        read::unknown(line);
-        return s;
+        read::unknown(out, line)?;
+        return Ok(s);
     }
     if clip(k[which]) <= i {
-        read::unknown(line);
-        return s;
+        read::unknown(out, line)?;
+        return Ok(s);
     }
     let byte = read::byte(value);
     let signed = read::word(value);
@@ -67,28 +75,40 @@ fn set(line: &[u8], mut s: Setup) -> Setup {
         7 => s.work[i] = unsigned,
         _ => {}
     }
-    s
+    Ok(s)
 }
 
 // F, A or B: the calls and the answers are lent as far as they are used.
-fn run_line(which: u8, s: Setup, calls: &[i32], answers: &mut [i32]) -> Setup {
+fn run_line<W: Write>(
+    out: &mut W,
+    which: u8,
+    s: Setup,
+    calls: &[i32],
+    answers: &mut [i32],
+) -> io::Result<Setup> {
     let c = s.calls;
     let a = s.answers;
     if calls.len() < c {
-        return s;
+        return Ok(s);
     }
     if answers.len() < a {
-        return s;
+        return Ok(s);
     }
-    let t = run(which, s, &calls[..c], &mut answers[..a]);
+    let t = run(out, which, s, &calls[..c], &mut answers[..a])?;
     if which == b'B' {
-        show::answers(a, answers);
+        show::answers(out, a, answers)?;
     }
-    t
+    Ok(t)
 }
 
 // An entry point on the rows, each lent at its length; its outcome and the rows are printed.
-fn run(which: u8, mut s: Setup, calls: &[i32], answers: &mut [i32]) -> Setup {
+fn run<W: Write>(
+    out: &mut W,
+    which: u8,
+    mut s: Setup,
+    calls: &[i32],
+    answers: &mut [i32],
+) -> io::Result<Setup> {
     let k = s.lengths;
     let mut kinds = s.kinds;
     let mut values = s.values;
@@ -122,9 +142,9 @@ fn run(which: u8, mut s: Setup, calls: &[i32], answers: &mut [i32]) -> Setup {
     s.counts = counts;
     s.log = log;
     s.work = work;
-    show::outcome(o);
-    show::rows(s);
-    s
+    show::outcome(out, o)?;
+    show::rows(out, &s)?;
+    Ok(s)
 }
 
 fn enter(

@@ -1,30 +1,42 @@
-// Printing on standard output: bytes, and a number after some.
+// Printing on a stream: bytes, and a number after some.
 #![tactic(auto)]
 
-ghost use Rattle.std.specs.Prelude.{◌≡◌, nat_abs};
+ghost use Rattle.std.specs.Prelude.{◌≡◌, ◌++◌, nat_abs, OnOk, decimal};
+ghost use Rattle.std.specs.Fmt.{signed_decimal};
+ghost use Rattle.std.specs.Io.KnownBytes.{Appends};
 
-use libc::STDOUT_FILENO;
+use std::io;
+use std::io::Write;
 
-pub fn text(bytes: &[u8]) {
-    io::write_all(STDOUT_FILENO, bytes);
+pub fn text<W: Write>(out: &mut W, bytes: &[u8]) -> io::Result<()>
+    ensures { OnOk result (Appends (W.contents out.old) (W.contents out.new) bytes.now) }
+{
+    out.write_all(bytes)
 }
 
-pub fn number(before: &[u8], n: usize) {
-    text(before);
-    io::print_decimal(STDOUT_FILENO, n as u64);
+pub fn number<W: Write>(out: &mut W, before: &[u8], n: usize) -> io::Result<()>
+    ensures { OnOk result (Appends (W.contents out.old) (W.contents out.new) (before.now ++ decimal n)) }
+{
+    text(out, before)?;
+    write!(out, "{n}")
 }
 
-pub fn word(before: &[u8], x: u32) {
-    text(before);
-    io::print_decimal(STDOUT_FILENO, x as u64);
+pub fn word<W: Write>(out: &mut W, before: &[u8], x: u32) -> io::Result<()>
+    ensures { OnOk result (Appends (W.contents out.old) (W.contents out.new) (before.now ++ decimal x)) }
+{
+    text(out, before)?;
+    write!(out, "{x}")
 }
 
-pub fn signed(before: &[u8], x: i32) {
-    text(before);
+pub fn signed<W: Write>(out: &mut W, before: &[u8], x: i32) -> io::Result<()>
+    ensures { OnOk result (Appends (W.contents out.old) (W.contents out.new) (before.now ++ signed_decimal x)) }
+{
+    text(out, before)?;
     if x < 0 {
-        text(b"-");
+        text(out, b"-")?;
     }
-    io::print_decimal(STDOUT_FILENO, size(x));
+    let n = size(x);
+    write!(out, "{n}")
 }
 
 // A number without its sign.

@@ -4,13 +4,16 @@
 ghost use Rattle.std.specs.Prelude.{◌≡◌, ◌+◌, ◌<◌, ◌≤◌, length};
 ghost use Rattle.tally.specs.Place.{Gathered};
 
-use libc::STDIN_FILENO;
-use reader::Read;
 use rules::{Head, Sizes};
 use script::Line;
+use std::io;
+use std::io::{BufWriter, Read, Write};
 
 // A script has at most so many bytes.
 const BYTES_MOST: usize = 65536;
+
+// So much of standard input is read, which tells a script that has more.
+const BYTES_READ: u64 = 65537;
 
 // A batch has at most so many calls.
 const CALLS_MOST: usize = 256;
@@ -46,85 +49,95 @@ impl Place {
 }
 
 // The line that ends a script that breaks the rules.
-fn print_bad(number: usize) {
-    print::number(b"bad ", number);
-    print::text(b"\n");
+fn print_bad<W: Write>(out: &mut W, number: usize) -> io::Result<()> {
+    print::number(out, b"bad ", number)?;
+    print::text(out, b"\n")
 }
 
 // The line of call number `number`.
-fn print_answer(number: usize, status: i32, value: i32) {
-    print::number(b"a ", number);
-    print::signed(b" ", status);
-    print::signed(b" ", value);
-    print::text(b"\n");
+fn print_answer<W: Write>(out: &mut W, number: usize, status: i32, value: i32) -> io::Result<()> {
+    print::number(out, b"a ", number)?;
+    print::signed(out, b" ", status)?;
+    print::signed(out, b" ", value)?;
+    print::text(out, b"\n")
 }
 
 // The lines of a batch's calls, of which the first is number first + 1; a refused batch has none.
-fn print_answers(status: usize, answers: &[i32; 512], count: usize, first: usize)
+fn print_answers<W: Write>(
+    out: &mut W,
+    status: usize,
+    answers: &[i32; 512],
+    count: usize,
+    first: usize,
+) -> io::Result<()>
     requires { (count ≤ 256) × (first ≤ 1000000) }
 {
     if status != 0 {
-        return;
+        return Ok(());
     }
     let mut i = 0;
     while i < count {
-        print_answer(first + i + 1, answers[2 * i], answers[2 * i + 1]);
+        print_answer(out, first + i + 1, answers[2 * i], answers[2 * i + 1])?;
         i += 1;
     }
+    Ok(())
 }
 
 // The line of a ZCT cell.
-fn print_zero(address: u32) {
-    print::word(b"z ", address);
-    print::text(b"\n");
+fn print_zero<W: Write>(out: &mut W, address: u32) -> io::Result<()> {
+    print::word(out, b"z ", address)?;
+    print::text(out, b"\n")
 }
 
 // The z lines.
-fn print_zct(zct: &[u32], used: usize) {
+fn print_zct<W: Write>(out: &mut W, zct: &[u32], used: usize) -> io::Result<()> {
     let mut i = 0;
     while i < used && i < zct.len() {
-        print_zero(zct[i]);
+        print_zero(out, zct[i])?;
         i += 1;
     }
+    Ok(())
 }
 
 // The line of an MRT cell.
-fn print_count(address: u32, count: u32) {
-    print::word(b"m ", address);
-    print::word(b" ", count);
-    print::text(b"\n");
+fn print_count<W: Write>(out: &mut W, address: u32, count: u32) -> io::Result<()> {
+    print::word(out, b"m ", address)?;
+    print::word(out, b" ", count)?;
+    print::text(out, b"\n")
 }
 
 // The m lines.
-fn print_mrt(mrt: &[u32], counts: &[u32], used: usize) {
+fn print_mrt<W: Write>(out: &mut W, mrt: &[u32], counts: &[u32], used: usize) -> io::Result<()> {
     let mut i = 0;
     while i < used && i < mrt.len() {
         if counts.len() <= i {
-            return;
+            return Ok(());
         }
-        print_count(mrt[i], counts[i]);
+        print_count(out, mrt[i], counts[i])?;
         i += 1;
     }
+    Ok(())
 }
 
 // The line of variable v, which holds x.
-fn print_variable(v: usize, x: i32) {
-    print::number(b"v ", v);
+fn print_variable<W: Write>(out: &mut W, v: usize, x: i32) -> io::Result<()> {
+    print::number(out, b"v ", v)?;
     if x < 0 {
-        print::text(b" -");
+        print::text(out, b" -")?;
     } else {
-        print::signed(b" ", x);
+        print::signed(out, b" ", x)?;
     }
-    print::text(b"\n");
+    print::text(out, b"\n")
 }
 
 // The v lines.
-fn print_variables(variables: &[i32]) {
+fn print_variables<W: Write>(out: &mut W, variables: &[i32]) -> io::Result<()> {
     let mut v = 0;
     while v < variables.len() {
-        print_variable(v, variables[v]);
+        print_variable(out, v, variables[v])?;
         v += 1;
     }
+    Ok(())
 }
 
 // The number of free cells: each has one field of kind 3.
@@ -141,13 +154,14 @@ fn free_cells(kinds: &[u8]) -> usize {
 }
 
 // The f line.
-fn print_free(n: usize) {
-    print::number(b"f ", n);
-    print::text(b"\n");
+fn print_free<W: Write>(out: &mut W, n: usize) -> io::Result<()> {
+    print::number(out, b"f ", n)?;
+    print::text(out, b"\n")
 }
 
 // The lines at the end: the heap's, or that of a bad line.
-fn print_end(
+fn print_end<W: Write>(
+    out: &mut W,
     place: Place,
     head: Head,
     kinds: &[u8],
@@ -155,15 +169,14 @@ fn print_end(
     zct: &[u32],
     mrt: &[u32],
     counts: &[u32],
-) {
+) -> io::Result<()> {
     if place.bad {
-        print_bad(place.lines);
-        return;
+        return print_bad(out, place.lines);
     }
-    print_zct(zct, head.zct);
-    print_mrt(mrt, counts, head.mrt);
-    print_variables(variables);
-    print_free(free_cells(kinds));
+    print_zct(out, zct, head.zct)?;
+    print_mrt(out, mrt, counts, head.mrt)?;
+    print_variables(out, variables)?;
+    print_free(out, free_cells(kinds))
 }
 
 // Call number `i` of the open batch.
@@ -177,7 +190,7 @@ fn keep(calls: &mut [i32], i: usize, op: i32, a: i32, b: i32, c: i32)
 }
 
 // The line after so many lines: its number is one more.
-fn read_line(text: &[u8], at: usize, lines: usize, m: usize) -> Read
+fn read_line(text: &[u8], at: usize, lines: usize, m: usize) -> reader::Read
     requires { (at ≤ length text.now) × (lines < 1000000) }
     ensures { result.number ≡ lines + 1 }
 {
@@ -219,7 +232,8 @@ fn gather(text: &[u8], from: Place, m: usize, calls: &mut [i32]) -> Place
 }
 
 // A script after its heap line, on rows of the heap's lengths: its batches, and the lines at the end; nothing after a bad line.
-fn run(
+fn run<W: Write>(
+    out: &mut W,
     text: &[u8],
     start: usize,
     sizes: Sizes,
@@ -231,7 +245,7 @@ fn run(
     counts: &mut [u32],
     log: &mut [u32],
     work: &mut [u32],
-) {
+) -> io::Result<()> {
     let made = heap::fresh(sizes, kinds, values, variables, zct, mrt, counts, log, work);
     let mut head = made.head;
     let mut calls = [0i32; 1024];
@@ -257,18 +271,17 @@ fn run(
             &mut answers,
         );
         head = done.head;
-        print_answers(done.status, &answers, place.calls, place.closed);
+        print_answers(out, done.status, &answers, place.calls, place.closed)?;
     }
-    print_end(place, head, kinds, variables, zct, mrt, counts);
+    print_end(out, place, head, kinds, variables, zct, mrt, counts)
 }
 
 // A script: line 1 says the heap, and each row is lent at its length.
-fn tally(text: &[u8]) {
+fn tally<W: Write>(out: &mut W, text: &[u8]) -> io::Result<()> {
     let read = reader::read_line(text, 0, 0, 0);
     let line = read.line;
     let Line::Heap(n, m, l, cap) = line else {
-        print_bad(1);
-        return;
+        return print_bad(out, 1);
     };
     let fields = 2 * n;
     let entries = 2 * l;
@@ -281,6 +294,7 @@ fn tally(text: &[u8]) {
     let mut log = [0u32; 2048];
     let mut work = [0u32; 1024];
     run(
+        out,
         text,
         read.next,
         Sizes::plain(n, m, l, cap),
@@ -292,15 +306,17 @@ fn tally(text: &[u8]) {
         &mut counts[..n],
         &mut log[..entries],
         &mut work[..n],
-    );
+    )
 }
 
-fn main() {
-    let mut space = [0u8; 65537];
-    let n = io::read_full(STDIN_FILENO, &mut space);
-    if BYTES_MOST < n {
-        print_bad(0);
-        return;
+fn main(rt: HostRuntime) -> io::Result<()> {
+    let mut text = Vec::new(rt.alloc());
+    rt.stdin().take(BYTES_READ).read_to_end(&mut text)?;
+    let mut out = BufWriter::new(rt.alloc(), rt.stdout())?;
+    if BYTES_MOST < text.len() {
+        print_bad(&mut out, 0)?;
+    } else {
+        tally(&mut out, text.as_slice())?;
     }
-    tally(&space[..n]);
+    out.flush()
 }

@@ -11,6 +11,9 @@ use rules::{Call, Deed};
 // A field is below this: 0 or 1.
 const FIELD: usize = 2;
 
+// Calls have at most so many words: 256 calls, four to each.
+const WORDS_MOST: usize = 1024;
+
 // A word not named is below this: 0.
 const UNUSED: usize = 1;
 
@@ -112,7 +115,7 @@ pub fn is_call(d: Decoded) -> bool
 pub fn calls_right(calls: &[i32], m: usize) -> bool
     ensures { Decides result m calls.now }
 {
-    if 1024 < calls.len() {
+    if WORDS_MOST < calls.len() {
         return false;
     }
     let mut i = 0;
