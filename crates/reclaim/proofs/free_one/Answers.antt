@@ -1,5 +1,6 @@
 -- The fields are read, let go, and the cell goes to the free list.
-use Rattle.std.proofs.Common.{refl}
+use Rattle.std.proofs.Common.{refl, rules}
+use Rattle.rules.specs.Whole.{Inside}
 use Rattle.cells.proofs.Storing.{inside-more, read_inside}
 use Rattle.reclaim.proofs.Freeing.{freed_as}
 use Rattle.reclaim.proofs.free_one.Goals as goal
@@ -17,7 +18,9 @@ lower_to-l-requires c =
 pub lower_to-low-requires : goal.lower_to-low-requires
 lower_to-low-requires c =
     let R = c.requires.heaped.rows in
-    inside-more c.field_at-y.result R.most (read_inside R.cells c.field_at-y.result _ c.field_at-y.ensures)
+    let X : Inside 1024 c.field_at-x.result = inside-more c.field_at-x.result R.most (read_inside R.cells c.field_at-x.result _ c.field_at-x.ensures) in
+    let Y : Inside 1024 c.field_at-y.result = inside-more c.field_at-y.result R.most (read_inside R.cells c.field_at-y.result _ c.field_at-y.ensures) in
+    search rules
 
 pub returns : goal.returns
 returns c = λ n h R.
