@@ -1,4 +1,4 @@
-use Rattle.std.proofs.Common.{sym, ap, ◌∙◌, ◌+◌, ◌*◌, ◌-◌, get_or, drop, arith}
+use Rattle.std.proofs.Common.{sym, ap, ◌∙◌, arith}
 use Rattle.script.specs.Line.{capped}
 use Rattle.script.proofs.NumberLaws.{digits_wrong, below_digit, above_digit, digits_on, digits_end, digits_much, capped_fits}
 use Rattle.script.proofs.digits.Goals as goal

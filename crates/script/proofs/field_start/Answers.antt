@@ -8,7 +8,7 @@ loop-i-preserved c =
     let h = c.loop-i-test.true in
     let d = c.if-more-eq0.false in
     elim c.if-s-i-eq9.branch [
-        then-s-i-eq9 w ↦ (omega arith, rw w.more-is (field-here _ _ _ h w.if-s-i-eq9.true d ∙ c.loop-i.invariant.1))
+      | then-s-i-eq9 w ↦ (omega arith, rw w.more-is (field-here _ _ _ h w.if-s-i-eq9.true d ∙ c.loop-i.invariant.1))
       | else-s-i-eq9 w ↦ (omega arith, rw w.more-is (field-on _ _ _ h w.if-s-i-eq9.false d ∙ c.loop-i.invariant.1))
     ]
 

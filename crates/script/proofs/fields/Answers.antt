@@ -7,7 +7,7 @@ pub loop-at-preserved : goal.loop-at-preserved
 loop-at-preserved c =
     let h = c.loop-at-test.true in
     elim c.if-s-at-eq9.branch [
-        then-s-at-eq9 w ↦ omega (arith, ap length (tab_here _ _ h w.if-s-at-eq9.true))
+      | then-s-at-eq9 w ↦ omega (arith, ap length (tab_here _ _ h w.if-s-at-eq9.true))
       | else-s-at-eq9 w ↦ omega (arith, ap length (tab_on _ _ h w.if-s-at-eq9.false))
     ]
 

@@ -1,4 +1,4 @@
-use Rattle.std.proofs.Common.{sym, ◌∙◌, refl, arith}
+use Rattle.std.proofs.Common.{sym, ◌∙◌, arith}
 use Rattle.script.proofs.TextLaws.{same-lengths, same_differ, same_step, same_end}
 use Rattle.script.proofs.same.Goals as goal
 
