@@ -3,7 +3,7 @@ use Rattle.script.specs.declared.Word.TheVariants.{Number}
 use Rattle.script.specs.Number.{number_of}
 use Rattle.script.specs.Line.{as_word, capped}
 use Rattle.script.proofs.TextLaws.{rest_part}
-use Rattle.script.proofs.NumberLaws.{minus-zero, minus_much, minus-some, figure-none, figure-plain, figure-minus}
+use Rattle.script.proofs.NumberLaws.{minus-zero, minus_much, minus-some, figure-none, figure-plain, figure-minus, minus_is}
 use Rattle.script.proofs.figure.Goals as goal
 
 pub returns-then-s-eq0 : goal.returns-then-s-eq0
@@ -32,4 +32,6 @@ returns c =
     let o = number_of (drop 1 s) in
     let e = c.number-n.ensures ∙ ap (λ (l : List ℕ). capped (number_of l)) (rest_part s) in
     let m = figure-minus s c.if-s-eq0.false c.if-s-ne45.false in
-    ?
+    let z = c.if-n-eq0.false in
+    ap Number (minus_is (c.number-n.result - 1) (omega arith) ∙ ap (λ (k : ℕ). negsuc (k - 1)) e)
+    ∙ sym (ap as_word (m ∙ minus-some o (λ q. z (e ∙ q)) (omega arith)))

@@ -8,14 +8,14 @@ returns-then-line-gt-LONGEST c = sym (line_long c.args.m c.args.line.now c.if-li
 
 pub returns-then-more-words : goal.returns-then-more-words
 returns-then-more-words c =
-    let f = c.fields.ensures in
+    let f = c.fields-more.ensures in
     let w = c.words.ensures in
     let d = c.if-more-words.true in
     sym (line_other c.args.m c.args.line.now c.operation-op.result c.if-line-gt-LONGEST.false (c.operation-op.ensures ∙ ap operation_of c.field.ensures) (λ e. d (omega arith)))
 
 pub returns-then-op-eq11 : goal.returns-then-op-eq11
 returns-then-op-eq11 c =
-    let f = c.fields.ensures in
+    let f = c.fields-more.ensures in
     let w = c.words.ensures in
     let d = c.if-more-words.false in
     sym (line_batch c.args.m c.args.line.now c.operation-op.result c.if-line-gt-LONGEST.false (c.operation-op.ensures ∙ ap operation_of c.field.ensures) (omega arith) c.if-op-eq11.true)
@@ -25,7 +25,7 @@ call_line-requires c = omega (arith, c.operation-op.ensures, operation-most c.fi
 
 pub returns : goal.returns
 returns c =
-    let f = c.fields.ensures in
+    let f = c.fields-more.ensures in
     let w = c.words.ensures in
     let d = c.if-more-words.false in
     c.call_line.ensures

@@ -16,12 +16,12 @@ returns-then-op-ne5 c =
 
 pub returns-then-i-ne3 : goal.returns-then-i-ne3
 returns-then-i-ne3 c =
-    c.plain-2.ensures
-    ∙ ap (λ (l : List ℕ). as_word (plain_of l)) c.field-2.ensures
+    c.plain-then-i-ne3.ensures
+    ∙ ap (λ (l : List ℕ). as_word (plain_of l)) c.field-then-i-ne3.ensures
     ∙ ap as_word (sym (word-plain_2 c.args.op c.args.i (fields_of c.args.line.now) (omega (arith, c.words.ensures)) c.if-op-ne5.false c.if-i-ne3.true))
 
 pub returns : goal.returns
 returns c =
     c.figure.ensures
-    ∙ ap (λ (l : List ℕ). as_word (figure_of l)) c.field-3.ensures
+    ∙ ap (λ (l : List ℕ). as_word (figure_of l)) c.field-2.ensures
     ∙ ap as_word (sym (word-figure c.args.op c.args.i (fields_of c.args.line.now) (omega (arith, c.words.ensures)) c.if-op-ne5.false c.if-i-ne3.false))
