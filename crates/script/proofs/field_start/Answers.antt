@@ -11,8 +11,8 @@ loop-i-preserved c =
     let h : i < length s = omega arith in
     let d = c.if-more-eq0.false in
     elim c.if-s-i-eq9.branch [
-      then-s-i-eq9 w ↦ record { inside = omega arith; rest = rw w.more-is (field-here s i more h w.if-s-i-eq9.true d ∙ c.loop-i.invariant.rest) }
-    | else-s-i-eq9 w ↦ record { inside = omega arith; rest = rw w.more-is (field-on s i more h w.if-s-i-eq9.false d ∙ c.loop-i.invariant.rest) }
+      | then-s-i-eq9 w ↦ record { inside = omega arith; rest = rw w.more-is (field-here s i more h w.if-s-i-eq9.true d ∙ c.loop-i.invariant.rest) }
+      | else-s-i-eq9 w ↦ record { inside = omega arith; rest = rw w.more-is (field-on s i more h w.if-s-i-eq9.false d ∙ c.loop-i.invariant.rest) }
     ]
 
 pub returns : goal.returns

@@ -9,8 +9,8 @@ loop-at-preserved c =
     let i = c.loop-at.at in
     let h : i < length s = omega arith in
     elim c.if-s-at-eq9.branch [
-      then-s-at-eq9 w ↦ let e = ap length (tab_here s i h w.if-s-at-eq9.true) in record { inside = omega arith; few = omega arith; rest = omega arith }
-    | else-s-at-eq9 w ↦ let e = ap length (tab_on s i h w.if-s-at-eq9.false) in record { inside = omega arith; few = omega arith; rest = omega arith }
+      | then-s-at-eq9 w ↦ let e = ap length (tab_here s i h w.if-s-at-eq9.true) in record { inside = omega arith; few = omega arith; rest = omega arith }
+      | else-s-at-eq9 w ↦ let e = ap length (tab_on s i h w.if-s-at-eq9.false) in record { inside = omega arith; few = omega arith; rest = omega arith }
     ]
 
 pub returns : goal.returns

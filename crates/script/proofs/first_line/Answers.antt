@@ -1,4 +1,4 @@
-use Rattle.std.proofs.Common.{ℕ, List, true, false, sym, ap, ◌∙◌, arith}
+use Rattle.std.proofs.Common.{ℕ, List, true, false, sym, ap, ◌∙◌}
 use Rattle.script.specs.Text.{bytes, same_bytes}
 use Rattle.script.proofs.LineLaws.{head-long, head_other, head-word}
 use Rattle.script.proofs.first_line.Goals as goal
