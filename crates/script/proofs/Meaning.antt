@@ -1,11 +1,9 @@
 -- What a line that is read may be: line 1 a heap within the limits of rules, a later line a call of rules. Assumes nothing.
-use Prim.Native.Nat.{ℕ, ◌+◌, zero-le}
+use Prim.Native.Nat.{ℕ, ◌+◌}
 use mathlib.Core.Path.{◌≡◌, refl}
 use mathlib.Core.Bool.{Bool, true, false, cond, ◌&&◌}
 use mathlib.Core.Option.{Option, none, some}
 use mathlib.Core.List.{List, []}
-use native.Mathlib.Omega.{arith}
-use borrow.Author.Tests.{leb-true, le-leb}
 use lib.Dec.{eqb, leb}
 use lib.ListN.{length, get_or}
 use lib.IntN.{ℤ, pos}
