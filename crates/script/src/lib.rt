@@ -159,6 +159,7 @@ fn digits(s: &[u8]) -> usize
 }
 
 // A number in decimal, as far as it counts.
+#[tactic(auto, using(crate::proofs::NumberLaws::number_laws))]
 fn number(s: &[u8]) -> usize
     ensures { result ≡ capped (number_of s.now) }
 {
