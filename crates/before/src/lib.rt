@@ -84,6 +84,7 @@ fn check_two(variables: &[i32], v: usize, w: usize, n: usize) -> usize
 }
 
 // 11 where v holds nothing, 12 where its field f is no cell.
+#[tactic(auto, unfolding(rules::specs::Call::refuses, rules::specs::Call::var))]
 fn check_follow(
     kinds: &[u8],
     values: &[i32],
@@ -112,6 +113,7 @@ fn no_figure(f: Field) -> usize
 }
 
 // 11 where v holds nothing, 15 where its field f does, 13 where it holds a cell.
+#[tactic(auto, unfolding(rules::specs::Call::refuses, rules::specs::Call::var))]
 fn check_read(
     kinds: &[u8],
     values: &[i32],
@@ -128,6 +130,7 @@ fn check_read(
 }
 
 // 0, or the number that says no to a deed: 11, 12, 13 or 15.
+#[tactic(auto, unfolding(rules::specs::Call::refuses, rules::specs::Call::var))]
 fn refuses(deed: Deed, kinds: &[u8], values: &[i32], variables: &[i32], n: usize) -> usize
     requires { Reaches n kinds.now values.now variables.now (Do deed) }
     ensures { (s : Shape) → Shown n kinds.now values.now variables.now s → result ≡ refuses deed s }
@@ -180,6 +183,7 @@ fn make_count(variables: &[i32], w: usize, n: usize) -> usize
 }
 
 // How many entries link logs.
+#[tactic(auto, unfolding(rules::specs::Call::var))]
 fn need_link(
     kinds: &[u8],
     values: &[i32],
@@ -212,6 +216,7 @@ fn need_store(
 }
 
 // How many entries a deed logs.
+#[tactic(auto, unfolding(rules::specs::Call::logs))]
 fn entries(deed: Deed, kinds: &[u8], values: &[i32], variables: &[i32], n: usize) -> usize
     requires { Reaches n kinds.now values.now variables.now (Do deed) }
     ensures { (s : Shape) → Shown n kinds.now values.now variables.now s → result ≡ length (logs deed s) }

@@ -21,7 +21,7 @@ use Rattle.rules.specs.Table.{count_in}
 use Rattle.rules.specs.Heap.{Heap, place, field}
 use Rattle.rules.specs.Settle.{replayed, settled}
 use Rattle.rules.specs.Call.{Answer, AllFit, var}
-use Rattle.rules.specs.Step.{Stepped, Result, full, wants, counted, settled_for, step, calls, unfreed, batch}
+use Rattle.rules.specs.Step.{Stepped, Result, wants, counted, settled_for, step, calls, unfreed, batch}
 use Rattle.rules.specs.Rows.{Lent, rows_of, head_of, heap_of}
 use Rattle.rules.specs.Sound.{Sound, Sized, mark, Live, held_among, times}
 use Rattle.rules.specs.Refusals.{Batched, answer_words, answered, accepted, audit_of, is_sound}

@@ -13,7 +13,7 @@ use Rattle.rules.specs.declared.State.{State}
 use Rattle.rules.specs.declared.Sizes.{Sizes}
 use Rattle.rules.specs.declared.Field.{Field}
 use Rattle.rules.specs.Field.{variable_of, held_of}
-use Rattle.rules.specs.Table.{counts, pad}
+use Rattle.rules.specs.Table.{pad}
 use Rattle.rules.specs.Heap.{Tables, Transaction, allocates, creates, destroys, Heap}
 use Rattle.rules.specs.Rows.{TableRows, Lent, table_rows, words, fields_of, tables_of}
 use Rattle.rules.specs.Whole.{Is, Are, Cells, Logged, Whole}

@@ -20,7 +20,7 @@ use Rattle.rules.specs.Rows.{Lent, lent, words, rows_of, head_of, heap_of}
 use Rattle.rules.specs.Refusals.{cleared}
 use Rattle.rules.specs.Whole.{Inside, Logged, Whole, start_of}
 use Rattle.rules.specs.Sound.{times, Sound, Sized}
-use Rattle.rules.specs.Invariant.{used, live, Chain, Small, Inv}
+use Rattle.rules.specs.Invariant.{live, Chain, Small, Inv}
 use Rattle.rules.proofs.Cells.{live_below, free_dead}
 use Rattle.rules.specs.Head.{Limits}
 use Rattle.rules.proofs.Calls.{holds-var}

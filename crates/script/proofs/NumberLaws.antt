@@ -79,9 +79,6 @@ number_more [] h k e = absurd (h refl)
 number_more (b ∷ []) h k e = absurd (k refl)
 number_more (b ∷ d ∷ s) h k e = rw (ne_eqb b 48 e)
 
--- what is read of each form of a number
-pub ruleset number_laws = (number-none, number-one, number-zero, number_more)
-
 -- ---- words
 
 pub plain-some : (o : Option ℕ) → capped o < 2147483648 → plain o ≡ some (pos (capped o))

@@ -20,6 +20,9 @@ const MOST: usize = 2147483648;
 // What stands for any number above MOST, and for what is no number.
 const NONE: usize = 2147483649;
 
+// The byte 0, which only the number 0 begins with.
+const NOUGHT: u8 = 48;
+
 // A word of a call, or what is none.
 #[derive(Clone, Copy)]
 pub enum Word {
@@ -159,7 +162,6 @@ fn digits(s: &[u8]) -> usize
 }
 
 // A number in decimal, as far as it counts.
-#[tactic(auto, using(crate::proofs::NumberLaws::number_laws))]
 fn number(s: &[u8]) -> usize
     ensures { result ≡ capped (number_of s.now) }
 {
@@ -169,7 +171,7 @@ fn number(s: &[u8]) -> usize
     if s.len() == 1 {
         return digits(s);
     }
-    if s[0] == 48 {
+    if s[0] == NOUGHT {
         return NONE;
     }
     digits(s)

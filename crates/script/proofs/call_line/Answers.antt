@@ -1,4 +1,4 @@
-use Rattle.std.proofs.Common.{◌≡◌, pos, w32, to_z, of_z, sym, ◌∙◌, rules, arith}
+use Rattle.std.proofs.Common.{ℕ, ◌≡◌, sym, ◌∙◌, pos, to_z, of_z, w32, rules, arith}
 use mir.Facts.{to_z_pos}
 use Rattle.script.specs.Text.{fields_of}
 use Rattle.script.specs.Line.{word_of}
@@ -7,45 +7,46 @@ use Rattle.script.proofs.call_line.Goals as goal
 
 pub returns-in_default : goal.returns-in_default
 returns-in_default c =
-    let fs = fields_of c.args.line.now in
-    let op = c.args.op in
-    no-first c.args.m (pos op) (word_of op 1 fs) (word_of op 2 fs) (word_of op 3 fs) (sym c.word_at.ensures ∙ c.in_default.is)
+    let x = c.args in
+    let o = λ (i : ℕ). word_of x.op i (fields_of x.line.now) in
+    no-first x.m (pos x.op) (o 1) (o 2) (o 3) (sym c.word_at.ensures ∙ c.in_default.is)
 
 pub returns-in_default-word_at : goal.returns-in_default-word_at
 returns-in_default-word_at c =
-    let fs = fields_of c.args.line.now in
-    let op = c.args.op in
-    no_second c.args.m (pos op) (word_of op 1 fs) (word_of op 2 fs) (word_of op 3 fs) c.in-Number.a (sym c.in-Number.ensures) (sym c.word_at-2.ensures ∙ c.in_default-word_at.is)
+    let x = c.args in
+    let o = λ (i : ℕ). word_of x.op i (fields_of x.line.now) in
+    no_second x.m (pos x.op) (o 1) (o 2) (o 3) _ (sym c.word_at.ensures ∙ c.in-Number.is) (sym c.word_at-2.ensures ∙ c.in_default-word_at.is)
 
 pub returns-in_default-word_at-2 : goal.returns-in_default-word_at-2
 returns-in_default-word_at-2 c =
-    let fs = fields_of c.args.line.now in
-    let op = c.args.op in
-    no_third c.args.m (pos op) (word_of op 1 fs) (word_of op 2 fs) (word_of op 3 fs) c.in-Number.a c.in-Number-word_at.b (sym c.in-Number.ensures) (sym c.in-Number-word_at.ensures) (sym c.word_at-3.ensures ∙ c.in_default-word_at-2.is)
+    let x = c.args in
+    let o = λ (i : ℕ). word_of x.op i (fields_of x.line.now) in
+    no_third x.m (pos x.op) (o 1) (o 2) (o 3) _ _ (sym c.word_at.ensures ∙ c.in-Number.is) (sym c.word_at-2.ensures ∙ c.in-Number-word_at.is) (sym c.word_at-3.ensures ∙ c.in_default-word_at-2.is)
 
 pub returns-then-is_call : goal.returns-then-is_call
 returns-then-is_call c =
-    let fs = fields_of c.args.line.now in
-    let op = c.args.op in
-    let x = c.in-Number.a in
-    let y = c.in-Number-word_at.b in
-    let z = c.in-Number-word_at-2.c in
-    let ex : to_z w32 (of_z w32 x) ≡ x = search rules in
-    let ey : to_z w32 (of_z w32 y) ≡ y = search rules in
-    let ez : to_z w32 (of_z w32 z) ≡ z = search rules in
-    let eo : to_z w32 op ≡ pos op = to_z_pos w32 (omega arith) in
-    let g = simp (ex, ey, ez) at c.if-is_call.ensures in
-    rw (eo, ex, ey, ez) (call-yes c.args.m (pos op) (word_of op 1 fs) (word_of op 2 fs) (word_of op 3 fs) x y z (sym c.in-Number.ensures) (sym c.in-Number-word_at.ensures) (sym c.in-Number-word_at-2.ensures) g)
+    let x = c.args in
+    let o = λ (i : ℕ). word_of x.op i (fields_of x.line.now) in
+    let a = c.in-Number.a in
+    let b = c.in-Number-word_at.b in
+    let d = c.in-Number-word_at-2.c in
+    let ea : to_z w32 (of_z w32 a) ≡ a = search rules in
+    let eb : to_z w32 (of_z w32 b) ≡ b = search rules in
+    let ed : to_z w32 (of_z w32 d) ≡ d = search rules in
+    let eo : to_z w32 x.op ≡ pos x.op = to_z_pos w32 (omega arith) in
+    let g = simp (ea, eb, ed) at c.is_call.ensures in
+    rw (eo, ea, eb, ed)
+    (call-yes x.m (pos x.op) (o 1) (o 2) (o 3) a b d (sym c.word_at.ensures ∙ c.in-Number.is) (sym c.word_at-2.ensures ∙ c.in-Number-word_at.is) (sym c.word_at-3.ensures ∙ c.in-Number-word_at-2.is) (sym c.if-is_call.true ∙ g))
 
 pub returns : goal.returns
 returns c =
-    let fs = fields_of c.args.line.now in
-    let op = c.args.op in
-    let x = c.in-Number.a in
-    let y = c.in-Number-word_at.b in
-    let z = c.in-Number-word_at-2.c in
-    let ex : to_z w32 (of_z w32 x) ≡ x = search rules in
-    let ey : to_z w32 (of_z w32 y) ≡ y = search rules in
-    let ez : to_z w32 (of_z w32 z) ≡ z = search rules in
-    let g = simp (ex, ey, ez) at c.if-is_call.ensures in
-    call-no c.args.m (pos op) (word_of op 1 fs) (word_of op 2 fs) (word_of op 3 fs) x y z (sym c.in-Number.ensures) (sym c.in-Number-word_at.ensures) (sym c.in-Number-word_at-2.ensures) g
+    let x = c.args in
+    let o = λ (i : ℕ). word_of x.op i (fields_of x.line.now) in
+    let a = c.in-Number.a in
+    let b = c.in-Number-word_at.b in
+    let d = c.in-Number-word_at-2.c in
+    let ea : to_z w32 (of_z w32 a) ≡ a = search rules in
+    let eb : to_z w32 (of_z w32 b) ≡ b = search rules in
+    let ed : to_z w32 (of_z w32 d) ≡ d = search rules in
+    let g = simp (ea, eb, ed) at c.is_call.ensures in
+    call-no x.m (pos x.op) (o 1) (o 2) (o 3) a b d (sym c.word_at.ensures ∙ c.in-Number.is) (sym c.word_at-2.ensures ∙ c.in-Number-word_at.is) (sym c.word_at-3.ensures ∙ c.in-Number-word_at-2.is) (sym c.if-is_call.false ∙ g)

@@ -1,0 +1,10 @@
+-- A cell in neither table that hasn't one pointer is against what is agreed.
+use Rattle.rules.proofs.Answers.{isn't}
+use Rattle.checks.proofs.Steps.{lonely}
+use Rattle.checks.proofs.compare.Goals as goal
+
+pub returns-then-not-single : goal.returns-then-not-single
+returns-then-not-single c =
+    isn't
+    (lonely _ _ _ _ c.requires.tables_fit.1 _ _ _ c.loop-a.invariant c.loop-a-test.true
+    (c.stands.ensures.no c.if-stands.false) (c.stands-in-loop-a.ensures.no c.if-stands-3.false) (c.single.ensures.no c.if-not-single.true))
