@@ -2,15 +2,14 @@
 // of input is and what is printed, and made the expected output.
 #![tactic(auto)]
 
+ghost use Rattle.std.specs.Prelude.{IfOk, ◌≤◌, length};
+
 mod read;
 mod rows;
 mod show;
 
 use std::io;
-use std::io::{BufWriter, Read, Write};
-
-// So much of standard input is read.
-const BYTES_MOST: u64 = 65536;
+use std::io::{Read, Write};
 
 // The text line by line.
 fn lines<W: Write>(
@@ -29,12 +28,25 @@ fn lines<W: Write>(
     Ok(())
 }
 
+// Reads until the buffer is full or the input ends; how many bytes it put at the buffer's start.
+fn read_full<R: Read>(input: &mut R, buf: &mut [u8]) -> io::Result<usize>
+    ensures { IfOk result (λ n. n ≤ length buf.new) }
+{
+    let mut done = 0;
+    while done < buf.len() {
+        let n = input.read(&mut buf[done..])?;
+        if n == 0 {
+            break;
+        }
+        done += n;
+    }
+    Ok(done)
+}
+
 fn main(rt: HostRuntime) -> io::Result<()> {
-    let mut text = Vec::new(rt.alloc());
-    rt.stdin().take(BYTES_MOST).read_to_end(&mut text)?;
-    let mut out = BufWriter::new(rt.alloc(), rt.stdout())?;
+    let mut text = [0u8; 65536];
+    let n = read_full(&mut rt.stdin(), &mut text)?;
     let mut calls = [0i32; 1100];
     let mut answers = [0i32; 600];
-    lines(&mut out, text.as_slice(), &mut calls, &mut answers)?;
-    out.flush()
+    lines(&mut rt.stdout(), &text[..n], &mut calls, &mut answers)
 }

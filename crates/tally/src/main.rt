@@ -1,19 +1,16 @@
 // The text program: a script of calls from standard input, run on a heap; its answers and the heap at the end.
 #![tactic(auto)]
 
-ghost use Rattle.std.specs.Prelude.{◌≡◌, ◌+◌, ◌<◌, ◌≤◌, length};
+ghost use Rattle.std.specs.Prelude.{IfOk, ◌≡◌, ◌+◌, ◌<◌, ◌≤◌, length};
 ghost use Rattle.tally.specs.Place.{Gathered};
 
 use rules::{Head, Sizes};
 use script::Line;
 use std::io;
-use std::io::{BufWriter, Read, Write};
+use std::io::{Read, Write};
 
 // A script has at most so many bytes.
 const BYTES_MOST: usize = 65536;
-
-// So much of standard input is read, which tells a script that has more.
-const BYTES_READ: u64 = 65537;
 
 // A batch has at most so many calls.
 const CALLS_MOST: usize = 256;
@@ -309,14 +306,27 @@ fn tally<W: Write>(out: &mut W, text: &[u8]) -> io::Result<()> {
     )
 }
 
-fn main(rt: HostRuntime) -> io::Result<()> {
-    let mut text = Vec::new(rt.alloc());
-    rt.stdin().take(BYTES_READ).read_to_end(&mut text)?;
-    let mut out = BufWriter::new(rt.alloc(), rt.stdout())?;
-    if BYTES_MOST < text.len() {
-        print_bad(&mut out, 0)?;
-    } else {
-        tally(&mut out, text.as_slice())?;
+// Reads until the buffer is full or the input ends; how many bytes it put at the buffer's start.
+fn read_full<R: Read>(input: &mut R, buf: &mut [u8]) -> io::Result<usize>
+    ensures { IfOk result (λ n. n ≤ length buf.new) }
+{
+    let mut done = 0;
+    while done < buf.len() {
+        let n = input.read(&mut buf[done..])?;
+        if n == 0 {
+            break;
+        }
+        done += n;
     }
-    out.flush()
+    Ok(done)
+}
+
+fn main(rt: HostRuntime) -> io::Result<()> {
+    let mut space = [0u8; 65537];
+    let n = read_full(&mut rt.stdin(), &mut space)?;
+    let mut out = rt.stdout();
+    if BYTES_MOST < n {
+        return print_bad(&mut out, 0);
+    }
+    tally(&mut out, &space[..n])
 }
