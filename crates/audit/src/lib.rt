@@ -200,7 +200,8 @@ pub fn audit(
     log: &[u32],
     work: &mut [u32],
 ) -> Outcome
-    ensures { leaves result (rows_now kinds.now values.now variables.now zct.now mrt.now counts.now log.now work.new) ≡ audit_of head (rows_now kinds.now values.now variables.now zct.now mrt.now counts.now log.now work.old) }
+    ensures { leaves result (rows_now kinds.now values.now variables.now zct.now mrt.now counts.now log.now work.new) ≡
+        audit_of head (rows_now kinds.now values.now variables.now zct.now mrt.now counts.now log.now work.old) }
 {
     if !sized(
         head,

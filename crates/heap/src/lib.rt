@@ -98,7 +98,8 @@ pub fn batch(
     if answers.len() < calls.len() / 2 {
         return answer(3, head);
     }
-    if !sound(head, kinds, values, variables, zct, mrt, counts, log, work) {
+    let good = sound(head, kinds, values, variables, zct, mrt, counts, log, work);
+    if !good {
         return answer(4, head);
     }
     run_batch(

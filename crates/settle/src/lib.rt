@@ -78,7 +78,8 @@ pub fn settle(
     sizes: Sizes,
 ) -> State
     requires { Settleable sizes (rows_now kinds.old values.old variables.now zct.old mrt.old counts.old log.old work.old) at }
-    ensures { Settles sizes (rows_now kinds.old values.old variables.now zct.old mrt.old counts.old log.old work.old) at (rows_now kinds.new values.new variables.now zct.new mrt.new counts.new log.new work.new) result }
+    ensures { Settles sizes (rows_now kinds.old values.old variables.now zct.old mrt.old counts.old log.old work.old) at
+        (rows_now kinds.new values.new variables.now zct.new mrt.new counts.new log.new work.new) result }
 {
     let cap = sizes.cap as u32;
     let used = at.used;
@@ -136,7 +137,8 @@ pub fn settle_for(
     sizes: Sizes,
 ) -> State
     requires { Roomable call sizes (rows_now kinds.old values.old variables.old zct.old mrt.old counts.old log.old work.old) at }
-    ensures { MakesRoom call make sizes (rows_now kinds.old values.old variables.old zct.old mrt.old counts.old log.old work.old) at (rows_now kinds.new values.new variables.new zct.new mrt.new counts.new log.new work.new) result }
+    ensures { MakesRoom call make sizes (rows_now kinds.old values.old variables.old zct.old mrt.old counts.old log.old work.old) at
+        (rows_now kinds.new values.new variables.new zct.new mrt.new counts.new log.new work.new) result }
 {
     if !make {
         return at;

@@ -49,7 +49,9 @@ fn step(
     at: State,
 ) -> Worked
     requires { Workable sizes words.now (rows_now kinds.old values.old variables.old zct.old mrt.old counts.old log.old work.old) at }
-    ensures { Works sizes words.now (rows_now kinds.old values.old variables.old zct.old mrt.old counts.old log.old work.old) at (rows_now kinds.new values.new variables.new zct.new mrt.new counts.new log.new work.new) result }
+    ensures { Works sizes words.now
+        (rows_now kinds.old values.old variables.old zct.old mrt.old counts.old log.old work.old) at
+        (rows_now kinds.new values.new variables.new zct.new mrt.new counts.new log.new work.new) result }
 {
     let found = call_at(words, 0, sizes.m);
     let Decoded::Is(call) = found else {

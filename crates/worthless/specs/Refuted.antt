@@ -68,7 +68,7 @@ pub record Refuted2 : Type 0 where
   pub leaves-log : Demand2 S.leaves_log → ⊥
   -- exact_below_cap
   pub counts-one-more : Demand2 S.counts_one_more → ⊥
-  -- frees-all
+  -- frees_all
   pub frees-nothing : Demand2 S.frees_nothing → ⊥
   pub frees-once : Demand2 S.frees_once → ⊥
   -- frees_exactly
@@ -93,9 +93,9 @@ pub record Refuted2 : Type 0 where
   pub hands-out-second : Demand2 S.hands_out_second → ⊥
   pub hands-out-old-figures : Demand2 S.hands_out_old_figures → ⊥
   pub value-beside-nothing : Demand2 S.value_beside_nothing → ⊥
-  -- settle-value
+  -- settle_value
   pub settle-one-more : Demand2 A.settle_one_more → ⊥
-  -- settled-before
+  -- settled_before
   pub settles-not-for-room : Demand2 S.settles_not_for_room → ⊥
   -- settle_ends
   pub settles-late : Demand2 S.settles_late → ⊥

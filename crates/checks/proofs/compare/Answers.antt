@@ -1,7 +1,12 @@
--- A cell in neither table that hasn't one pointer is against what is agreed.
+-- One address on in MRT; a cell in neither table that hasn't one pointer is against what is agreed.
 use Rattle.rules.proofs.Answers.{isn't}
-use Rattle.checks.proofs.Steps.{lonely}
+use Rattle.checks.proofs.Steps.{turn-mrt, lonely}
 use Rattle.checks.proofs.compare.Goals as goal
+
+pub loop-a-preserved-then-stands-3 : goal.loop-a-preserved-then-stands-3
+loop-a-preserved-then-stands-3 c =
+    turn-mrt _ _ _ _ c.requires.tables_fit.1 _ _ _ c.loop-a.invariant c.loop-a-test.true
+    (c.stands.ensures.no c.if-stands.false) (c.stands-in-loop-a.ensures.yes c.if-stands-3.true) (c.exact.ensures.yes c.if-not-exact.false)
 
 pub returns-then-not-single : goal.returns-then-not-single
 returns-then-not-single c =
