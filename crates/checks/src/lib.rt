@@ -12,6 +12,9 @@ ghost use Rattle.checks.specs.Counts.{CountedTo, TablesFit, tallied, AllMarked, 
 use cells::address_or;
 use rules::Head;
 
+// The work row's mark of a cell that a walk has not met.
+const UNMARKED: u32 = 0;
+
 // Does b name a cell that isn't free?
 fn live(kinds: &[u8], n: usize, b: usize) -> bool
     requires { (length kinds.now ≡ 2 * n) × (n ≤ 1024) }
@@ -121,7 +124,7 @@ pub fn walk(kinds: &[u8], values: &[i32], n: usize, first: usize, work: &mut [u3
         if kinds[2 * at] != 3 {
             return false;
         }
-        if work[at] != 0 {
+        if work[at] != UNMARKED {
             return false;
         }
         work[at] = 1;

@@ -154,7 +154,8 @@ fn count_down(mrt: &mut [u32], counts: &mut [u32], used: usize, cap: u32, a: u32
 {
     let p = find(mrt, used, a);
     let c = counts[p];
-    if c == 2 {
+    let least = 2;
+    if c == least {
         cut_at(mrt, used, p);
         return cut_at(counts, used, p);
     }

@@ -22,7 +22,7 @@ pub below-some : (m : ℕ) (x : ℤ) → lt_z x (pos 0) ≡ false → ltb (nat_a
 below-some m (pos a) h = refl
 below-some m (negsuc a) h = let q : ◌≡◌ {A = ℕ} 1 0 = cc in absurd (omega arith)
 
-pub nought : (x : ℤ) → is_below 1 x ≡ is_nought x
+nought : (x : ℤ) → is_below 1 x ≡ is_nought x
 nought (pos zero) = refl
 nought (pos (suc a)) = le-ltb (suc a) 1 (omega arith) ∙ sym (ne_eqb (suc a) 0 (λ e. omega arith))
 nought (negsuc a) = refl

@@ -9,10 +9,10 @@ offset_bounds-counts-p c = omega (arith, pair_row c.requires.mrt_rows c.args.a c
 pub bounds-counts-p : goal.bounds-counts-p
 bounds-counts-p c = pair_row c.requires.mrt_rows c.args.a c.find-p.result c.find-p.ensures c.requires.mrt_value
 
-pub returns-then-c-eq2 : goal.returns-then-c-eq2
-returns-then-c-eq2 c =
+pub returns-then-c-least : goal.returns-then-c-least
+returns-then-c-least c =
     counted_out c.requires.mrt_rows c.args.a c.find-p.result c.find-p.ensures c.requires.mrt_value
-    c.if-c-eq2.true c.cut_at-then-c-eq2.ensures.value c.cut_at.ensures.row_after c.cut_at-then-c-eq2.ensures.row_after
+    c.if-c-least.true c.cut_at-then-c-least.ensures.value c.cut_at.ensures.row_after c.cut_at-then-c-least.ensures.row_after
 
 pub lower-requires : goal.lower-requires
 lower-requires c = omega (arith, pair_count c.requires.mrt_rows c.args.a c.find-p.result c.find-p.ensures c.requires.mrt_value)
@@ -25,4 +25,4 @@ bounds-counts-p-2 c = pair_row c.requires.mrt_rows c.args.a c.find-p.result c.fi
 
 pub returns : goal.returns
 returns c =
-    counted-down c.requires.mrt_rows c.args.a c.find-p.result c.find-p.ensures c.requires.mrt_value c.lower.result c.if-c-eq2.false c.lower.ensures
+    counted-down c.requires.mrt_rows c.args.a c.find-p.result c.find-p.ensures c.requires.mrt_value c.lower.result c.if-c-least.false c.lower.ensures
