@@ -1,4 +1,4 @@
-use Rattle.std.proofs.Common.{sym, ap, arith}
+use Rattle.std.proofs.Common.{sym, ap}
 use Rattle.std.proofs.Math.Seq.{length-take-le}
 use Rattle.tally.proofs.First.{within}
 use Rattle.tally.proofs.Going.{twice, twice_fits}
@@ -57,4 +57,3 @@ slice_bounds-work-end g c = let h = within _ (ap (λ x. x.line) c.read_line-read
 
 pub slice_bounds-run-end-8 : goal.slice_bounds-run-end-8
 slice_bounds-run-end-8 g c = let h = within _ (ap (λ x. x.line) c.read_line-read.ensures) c.in-Heap.is in sym (length-take-le _ _ (h.n_most))
-
