@@ -1,42 +1,53 @@
 // Printing on a stream: bytes, and a number after some.
 #![tactic(auto)]
 
-ghost use Rattle.std.specs.Prelude.{◌≡◌, ◌++◌, nat_abs, OnOk, decimal};
+ghost use Rattle.std.specs.Prelude.{◌≡◌, ◌++◌, nat_abs, decimal};
 ghost use Rattle.std.specs.Fmt.{signed_decimal};
-ghost use Rattle.std.specs.Io.KnownBytes.{Appends};
+ghost use Rattle.print.specs.Printing.{Prints};
 
+use itoa::Buffer;
 use std::io;
-use std::io::Write;
+use std::io::{ErrorKind, Write};
 
 pub fn text<W: Write>(out: &mut W, bytes: &[u8]) -> io::Result<()>
-    ensures { OnOk result (Appends (W.contents out.old) (W.contents out.new) bytes.now) }
+    ensures { Prints (W.contents out.old) (W.contents out.new) bytes.now result }
 {
-    out.write_all(bytes)
+    let mut done = 0;
+    while done < bytes.len() {
+        let n = out.write(&bytes[done..])?;
+        if n == 0 {
+            return Err(io::Error::from(ErrorKind::WriteZero));
+        }
+        done += n;
+    }
+    Ok(())
 }
 
 pub fn number<W: Write>(out: &mut W, before: &[u8], n: usize) -> io::Result<()>
-    ensures { OnOk result (Appends (W.contents out.old) (W.contents out.new) (before.now ++ decimal n)) }
+    ensures { Prints (W.contents out.old) (W.contents out.new) (before.now ++ decimal n) result }
 {
     text(out, before)?;
-    write!(out, "{n}")
+    let mut buffer = Buffer::new();
+    text(out, buffer.format(n).as_bytes())
 }
 
 pub fn word<W: Write>(out: &mut W, before: &[u8], x: u32) -> io::Result<()>
-    ensures { OnOk result (Appends (W.contents out.old) (W.contents out.new) (before.now ++ decimal x)) }
+    ensures { Prints (W.contents out.old) (W.contents out.new) (before.now ++ decimal x) result }
 {
     text(out, before)?;
-    write!(out, "{x}")
+    let mut buffer = Buffer::new();
+    text(out, buffer.format(x).as_bytes())
 }
 
 pub fn signed<W: Write>(out: &mut W, before: &[u8], x: i32) -> io::Result<()>
-    ensures { OnOk result (Appends (W.contents out.old) (W.contents out.new) (before.now ++ signed_decimal x)) }
+    ensures { Prints (W.contents out.old) (W.contents out.new) (before.now ++ signed_decimal x) result }
 {
     text(out, before)?;
     if x < 0 {
         text(out, b"-")?;
     }
-    let n = size(x);
-    write!(out, "{n}")
+    let mut buffer = Buffer::new();
+    text(out, buffer.format(size(x)).as_bytes())
 }
 
 // A number without its sign.

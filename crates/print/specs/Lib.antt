@@ -1,0 +1,2 @@
+-- the definitions that print's contracts cite
+pub mod Printing
