@@ -2,14 +2,12 @@
 // of input is and what is printed, and made the expected output.
 #![tactic(auto)]
 
-ghost use Rattle.std.specs.Prelude.{IfOk, ◌≤◌, length};
-
 mod read;
 mod rows;
 mod show;
 
 use std::io;
-use std::io::{Read, Write};
+use std::io::Write;
 
 // The text line by line.
 fn lines<W: Write>(
@@ -28,24 +26,9 @@ fn lines<W: Write>(
     Ok(())
 }
 
-// Reads until the buffer is full or the input ends; how many bytes it put at the buffer's start.
-fn read_full<R: Read>(input: &mut R, buf: &mut [u8]) -> io::Result<usize>
-    ensures { IfOk result (λ n. n ≤ length buf.new) }
-{
-    let mut done = 0;
-    while done < buf.len() {
-        let n = input.read(&mut buf[done..])?;
-        if n == 0 {
-            break;
-        }
-        done += n;
-    }
-    Ok(done)
-}
-
 fn main(rt: HostRuntime) -> io::Result<()> {
     let mut text = [0u8; 65536];
-    let n = read_full(&mut rt.stdin(), &mut text)?;
+    let n = print::read_full(&mut rt.stdin(), &mut text)?;
     let mut calls = [0i32; 1100];
     let mut answers = [0i32; 600];
     lines(&mut rt.stdout(), &text[..n], &mut calls, &mut answers)

@@ -94,21 +94,17 @@ fn run_line<W: Write>(
     if answers.len() < a {
         return Ok(s);
     }
-    let t = run(out, which, s, &calls[..c], &mut answers[..a])?;
+    let (t, o) = run(which, s, &calls[..c], &mut answers[..a]);
+    show::outcome(out, o)?;
+    show::rows(out, &t)?;
     if which == b'B' {
         show::answers(out, a, answers)?;
     }
     Ok(t)
 }
 
-// An entry point on the rows, each lent at its length; its outcome and the rows are printed.
-fn run<W: Write>(
-    out: &mut W,
-    which: u8,
-    mut s: Setup,
-    calls: &[i32],
-    answers: &mut [i32],
-) -> io::Result<Setup> {
+// An entry point on the rows, each lent at its length: the rows afterwards, and its outcome.
+fn run(which: u8, mut s: Setup, calls: &[i32], answers: &mut [i32]) -> (Setup, Outcome) {
     let k = s.lengths;
     let mut kinds = s.kinds;
     let mut values = s.values;
@@ -142,9 +138,7 @@ fn run<W: Write>(
     s.counts = counts;
     s.log = log;
     s.work = work;
-    show::outcome(out, o)?;
-    show::rows(out, &s)?;
-    Ok(s)
+    (s, o)
 }
 
 fn enter(

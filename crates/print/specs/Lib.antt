@@ -1,2 +1,3 @@
 -- the definitions that print's contracts cite
 pub mod Printing
+pub mod Filling

@@ -1,13 +1,14 @@
-// Printing on a stream: bytes, and a number after some.
+// What the two programs do with a stream: they print bytes, and a number after some, and read it into a row.
 #![tactic(auto)]
 
 ghost use Rattle.std.specs.Prelude.{◌≡◌, ◌++◌, nat_abs, decimal};
 ghost use Rattle.std.specs.Fmt.{signed_decimal};
 ghost use Rattle.print.specs.Printing.{Prints};
+ghost use Rattle.print.specs.Filling.{Fills};
 
 use itoa::Buffer;
 use std::io;
-use std::io::{ErrorKind, Write};
+use std::io::{ErrorKind, Read, Write};
 
 pub fn text<W: Write>(out: &mut W, bytes: &[u8]) -> io::Result<()>
     ensures { Prints (W.contents out.old) (W.contents out.new) bytes.now result }
@@ -58,4 +59,19 @@ fn size(x: i32) -> u64
         return (-1 - x) as u64 + 1;
     }
     x as u64
+}
+
+// Reads until the row is full or the stream ends; how many bytes it put at the row's front.
+pub fn read_full<R: Read>(input: &mut R, row: &mut [u8]) -> io::Result<usize>
+    ensures { Fills (R.remaining input.old) (R.remaining input.new) row.new result }
+{
+    let mut done = 0;
+    while done < row.len() {
+        let n = input.read(&mut row[done..])?;
+        if n == 0 {
+            return Ok(done);
+        }
+        done += n;
+    }
+    Ok(done)
 }

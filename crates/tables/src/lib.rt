@@ -154,6 +154,7 @@ fn count_down(mrt: &mut [u32], counts: &mut [u32], used: usize, cap: u32, a: u32
 {
     let p = find(mrt, used, a);
     let c = counts[p];
+    // the least count that an entry has
     let least = 2;
     if c == least {
         cut_at(mrt, used, p);

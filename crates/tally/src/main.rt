@@ -1,13 +1,13 @@
 // The text program: a script of calls from standard input, run on a heap; its answers and the heap at the end.
 #![tactic(auto)]
 
-ghost use Rattle.std.specs.Prelude.{IfOk, ◌≡◌, ◌+◌, ◌<◌, ◌≤◌, length};
+ghost use Rattle.std.specs.Prelude.{◌≡◌, ◌+◌, ◌<◌, ◌≤◌, length};
 ghost use Rattle.tally.specs.Place.{Gathered};
 
 use rules::{Head, Sizes};
 use script::Line;
 use std::io;
-use std::io::{Read, Write};
+use std::io::Write;
 
 // A script has at most so many bytes.
 const BYTES_MOST: usize = 65536;
@@ -306,24 +306,9 @@ fn tally<W: Write>(out: &mut W, text: &[u8]) -> io::Result<()> {
     )
 }
 
-// Reads until the buffer is full or the input ends; how many bytes it put at the buffer's start.
-fn read_full<R: Read>(input: &mut R, buf: &mut [u8]) -> io::Result<usize>
-    ensures { IfOk result (λ n. n ≤ length buf.new) }
-{
-    let mut done = 0;
-    while done < buf.len() {
-        let n = input.read(&mut buf[done..])?;
-        if n == 0 {
-            break;
-        }
-        done += n;
-    }
-    Ok(done)
-}
-
 fn main(rt: HostRuntime) -> io::Result<()> {
     let mut space = [0u8; 65537];
-    let n = read_full(&mut rt.stdin(), &mut space)?;
+    let n = print::read_full(&mut rt.stdin(), &mut space)?;
     let mut out = rt.stdout();
     if BYTES_MOST < n {
         return print_bad(&mut out, 0);
