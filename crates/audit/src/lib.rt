@@ -3,221 +3,144 @@
 
 ghost use Rattle.std.specs.Prelude.{◌≡◌, ◌≤◌, length, replicate};
 ghost use Rattle.rules.specs.Head.{Says, Within};
-ghost use Rattle.rules.specs.Rows.{row_lengths};
-ghost use Rattle.rules.specs.Lending.{tables_now, rows_now};
 ghost use Rattle.rules.specs.Sound.{CellsSound, TablesSound, FreeList, pointers_to, Agree, ZctHeld, Lengths, Sized, Sound};
-ghost use Rattle.rules.specs.Refusals.{outcome, leaves, audit_of};
+ghost use Rattle.rules.specs.Refusals.{counted_as, numbers_of, leaves, audit_of};
+ghost use Rattle.cells.specs.Lending.{shown_in, lengths_in};
 ghost use Rattle.checks.specs.CellRows.{CellRows};
-ghost use Rattle.checks.specs.Counts.{TablesFit, EntriesBelow, Addressed};
+ghost use Rattle.checks.specs.Counts.{TablesFit};
 
-use cells::{clear, mark_held};
-use checks::{all_held, all_met, compare, count, table, walk, words, zero_from};
-use rules::{Head, Outcome};
+use cells::{RowLengths, View, mark_held};
+use checks::{Cells, Kinds, all_held, compare, counts, zero_from};
+use rules::{Head, Outcome, Refused};
 
 // Are fields and variables as they are to be?
-fn cells_sound(kinds: &[u8], values: &[i32], variables: &[i32], n: usize) -> bool
-    requires { CellRows n kinds.now values.now }
-    ensures { Says result (CellsSound n kinds.now values.now variables.now) }
+fn cells_sound(cells: Cells<'_>, variables: &[i32]) -> bool
+    ensures { let k = cells.entry.kinds in Says result (CellsSound k.n k.row.now cells.entry.values.now variables.now) }
 {
-    if !words(kinds, values, n) {
-        return false;
-    }
-    if !checks::variables(kinds, n, variables) {
-        return false;
-    }
-    true
+    cells.words() && cells.kinds.variables(variables)
 }
 
 // Are the tables' rows as they are to be?
-fn tables_sound(head: Head, kinds: &[u8], zct: &[u32], mrt: &[u32], counts: &[u32]) -> bool
-    requires { TablesFit head kinds.now (tables_now zct.now mrt.now counts.now) }
-    ensures { Says result (TablesSound head kinds.now (tables_now zct.now mrt.now counts.now)) }
+fn tables_sound(head: Head, view: View<'_>) -> bool
+    requires { let r = shown_in view view.log.now in TablesFit head r.kinds r.tables }
+    ensures { let r = shown_in view.entry view.entry.log.now in Says result (TablesSound head r.kinds r.tables) }
 {
-    let n = head.sizes.n;
-    if !table(kinds, n, zct, head.zct) {
-        return false;
-    }
-    if !table(kinds, n, mrt, head.mrt) {
-        return false;
-    }
-    if !checks::counts(counts, head.mrt, head.sizes.cap) {
-        return false;
-    }
-    true
+    let kinds = Kinds {
+        n: head.sizes.n,
+        row: view.kinds,
+    };
+    kinds.table(view.zct, head.zct)
+        && kinds.table(view.mrt, head.mrt)
+        && counts(view.counts, head.mrt, head.sizes.cap)
 }
 
 // Do the tables agree with the pointers?
-fn pointers_sound(
-    head: Head,
-    kinds: &[u8],
-    values: &[i32],
-    zct: &[u32],
-    mrt: &[u32],
-    counts: &[u32],
-    work: &mut [u32],
-) -> bool
-    requires cell_rows { CellRows head.sizes.n kinds.now values.now }
+fn pointers_sound(head: Head, view: View<'_>, work: &mut [u32]) -> bool
+    requires cell_rows { CellRows head.sizes.n view.kinds.now view.values.now }
     requires work_len { length work.old ≡ head.sizes.n }
-    requires tables_fit { TablesFit head kinds.now (tables_now zct.now mrt.now counts.now) × TablesSound head kinds.now (tables_now zct.now mrt.now counts.now) }
-    ensures { Says result (Agree head kinds.now (tables_now zct.now mrt.now counts.now) (pointers_to head.sizes.n kinds.now values.now)) }
+    requires tables_fit { let r = shown_in view work.old in TablesFit head r.kinds r.tables × TablesSound head r.kinds r.tables }
+    ensures { let r = shown_in view.entry work.old in Says result (Agree head r.kinds r.tables (pointers_to head.sizes.n r.kinds r.values)) }
 {
-    clear(work);
-    count(kinds, values, head.sizes.n, work);
-    compare(head, kinds, zct, mrt, counts, work)
+    let kinds = Kinds {
+        n: head.sizes.n,
+        row: view.kinds,
+    };
+    let cells = Cells {
+        kinds,
+        values: view.values,
+    };
+    work.fill(0);
+    cells.count(work);
+    compare(head, view, work)
 }
 
-// Does some variable hold each of the used entries?
-fn held_sound(variables: &[i32], n: usize, zct: &[u32], used: usize, work: &mut [u32]) -> bool
-    requires used_in_bounds { (used ≤ length zct.now) × (length work.old ≡ n) }
-    requires entries_below { EntriesBelow zct.now used n × Addressed variables.now }
-    ensures { Says result (ZctHeld n variables.now zct.now used) }
+// Does some variable hold each ZCT cell?
+fn held_sound(head: Head, view: View<'_>, work: &mut [u32]) -> bool
+    requires used_in_bounds { (head.zct ≤ length view.zct.now) × (length work.old ≡ head.sizes.n) }
+    requires rows_sound { let r = shown_in view work.old in CellsSound head.sizes.n r.kinds r.values r.variables × TablesSound head r.kinds r.tables }
+    ensures { Says result (ZctHeld head.sizes.n view.entry.variables.now view.entry.zct.now head.zct) }
 {
-    mark_held(variables, work);
-    all_held(zct, used, work)
+    mark_held(view.variables, work);
+    all_held(view.zct, head.zct, work)
 }
 
 // Does the free list meet every free cell once?
-fn frees_sound(kinds: &[u8], values: &[i32], n: usize, first: usize, work: &mut [u32]) -> bool
-    requires cell_rows { CellRows n kinds.now values.now }
-    requires work_len { length work.old ≡ n }
-    ensures { Says result (FreeList n kinds.now values.now first) }
+fn frees_sound(cells: Cells<'_>, first: usize, work: &mut [u32]) -> bool
+    requires { length work.old ≡ cells.kinds.n }
+    ensures { let k = cells.entry.kinds in Says result (FreeList k.n k.row.now cells.entry.values.now first) }
 {
-    clear(work);
-    if !walk(kinds, values, n, first, work) {
-        return false;
-    }
-    all_met(kinds, n, work)
+    work.fill(0);
+    cells.walk(first, work) && cells.kinds.all_met(work)
 }
 
 // Is every part of the heap sound? First what shows without the work row.
-fn parts_sound(
-    head: Head,
-    kinds: &[u8],
-    values: &[i32],
-    variables: &[i32],
-    zct: &[u32],
-    mrt: &[u32],
-    counts: &[u32],
-    log: &[u32],
-    work: &mut [u32],
-) -> bool
-    requires { Sized head (rows_now kinds.now values.now variables.now zct.now mrt.now counts.now log.now work.old) }
-    ensures { Says result (Sound head (rows_now kinds.now values.now variables.now zct.now mrt.now counts.now log.now work.old)) }
+fn parts_sound(head: Head, view: View<'_>, work: &mut [u32]) -> bool
+    requires { Sized head (shown_in view work.old) }
+    ensures { Says result (Sound head (shown_in view.entry work.old)) }
 {
-    let n = head.sizes.n;
-    if !cells_sound(kinds, values, variables, n) {
-        return false;
-    }
-    if !tables_sound(head, kinds, zct, mrt, counts) {
-        return false;
-    }
-    if !zero_from(log, 0) {
-        return false;
-    }
-    if !frees_sound(kinds, values, n, head.free, work) {
-        return false;
-    }
-    if !pointers_sound(head, kinds, values, zct, mrt, counts, work) {
-        return false;
-    }
-    if !held_sound(variables, n, zct, head.zct, work) {
-        return false;
-    }
-    true
+    let kinds = Kinds {
+        n: head.sizes.n,
+        row: view.kinds,
+    };
+    let cells = Cells {
+        kinds,
+        values: view.values,
+    };
+    cells_sound(cells, view.variables)
+        && tables_sound(head, view)
+        && zero_from(view.log, 0)
+        && frees_sound(cells, head.free, work)
+        && pointers_sound(head, view, work)
+        && held_sound(head, view, work)
 }
 
 // Is the heap sound? The work row may hold anything, and is zero afterwards.
-pub fn sound(
-    head: Head,
-    kinds: &[u8],
-    values: &[i32],
-    variables: &[i32],
-    zct: &[u32],
-    mrt: &[u32],
-    counts: &[u32],
-    log: &[u32],
-    work: &mut [u32],
-) -> bool
-    requires { Sized head (rows_now kinds.now values.now variables.now zct.now mrt.now counts.now log.now work.old) }
-    ensures says { Says result (Sound head (rows_now kinds.now values.now variables.now zct.now mrt.now counts.now log.now work.old)) }
+// Stays: head, view and work side by side: the work row is written while the view is read, and document 01 gives the head beside the rows.
+pub fn sound(head: Head, view: View<'_>, work: &mut [u32]) -> bool
+    requires { Sized head (shown_in view work.old) }
+    ensures says { Says result (Sound head (shown_in view.entry work.old)) }
     ensures work_after { work.new ≡ replicate head.sizes.n 0 }
 {
-    let yes = parts_sound(head, kinds, values, variables, zct, mrt, counts, log, work);
-    clear(work);
+    let yes = parts_sound(head, view, work);
+    work.fill(0);
     yes
 }
 
 // Are the head's numbers within the limits, and the rows' lengths as it says?
-pub fn sized(
-    head: Head,
-    kinds: usize,
-    values: usize,
-    variables: usize,
-    zct: usize,
-    mrt: usize,
-    counts: usize,
-    log: usize,
-    work: usize,
-) -> bool
-    ensures { Says result (Within head × Lengths head.sizes (row_lengths kinds values variables zct mrt counts log work)) }
+pub fn sized(head: Head, rows: RowLengths) -> bool
+    ensures { Says result (Within head × Lengths head.sizes (lengths_in rows)) }
 {
-    if !head.within() {
-        return false;
-    }
     let n = head.sizes.n;
-    if kinds != 2 * n || values != 2 * n {
-        return false;
-    }
-    if variables != head.sizes.m || log != 2 * head.sizes.l {
-        return false;
-    }
-    if zct != n || mrt != n || counts != n || work != n {
-        return false;
-    }
-    true
+    head.within()
+        && rows.kinds == 2 * n
+        && rows.values == 2 * n
+        && rows.variables == head.sizes.m
+        && rows.zct == n
+        && rows.mrt == n
+        && rows.counts == n
+        && rows.log == 2 * head.sizes.l
+        && rows.work == n
 }
 
-// An outcome that gives the head back, with a count of 0.
-pub fn answer(status: usize, head: Head) -> Outcome
-    ensures { result ≡ outcome status head 0 }
+// What says no to the heap, 1 where a number or a length is outside its limits, else 4; or that no cell was freed.
+fn judge(head: Head, view: View<'_>, work: &mut [u32]) -> Result<usize, Refused>
+    ensures { leaves (counted_as head result) (shown_in view.entry work.new) ≡ audit_of head (shown_in view.entry work.old) }
+{
+    if !sized(head, view.lengths(work)) {
+        return Err(Refused::Limits);
+    }
+    if !sound(head, view, work) {
+        return Err(Refused::Unsound);
+    }
+    Ok(0)
+}
+
+// The audit: a count of 0 exactly when the heap is sound, else what says no.
+pub fn audit(head: Head, view: View<'_>, work: &mut [u32]) -> Outcome
+    ensures { leaves (numbers_of result) (shown_in view.entry work.new) ≡ audit_of head (shown_in view.entry work.old) }
 {
     Outcome {
-        status: status,
-        head: head,
-        count: 0,
-    }
-}
-
-// The audit: 0 exactly when the heap is sound, 1 where a number or a length is outside its limits, else 4.
-pub fn audit(
-    head: Head,
-    kinds: &[u8],
-    values: &[i32],
-    variables: &[i32],
-    zct: &[u32],
-    mrt: &[u32],
-    counts: &[u32],
-    log: &[u32],
-    work: &mut [u32],
-) -> Outcome
-    ensures { leaves result (rows_now kinds.now values.now variables.now zct.now mrt.now counts.now log.now work.new) ≡
-        audit_of head (rows_now kinds.now values.now variables.now zct.now mrt.now counts.now log.now work.old) }
-{
-    if !sized(
         head,
-        kinds.len(),
-        values.len(),
-        variables.len(),
-        zct.len(),
-        mrt.len(),
-        counts.len(),
-        log.len(),
-        work.len(),
-    ) {
-        return answer(1, head);
+        count: judge(head, view, work),
     }
-    if !sound(head, kinds, values, variables, zct, mrt, counts, log, work) {
-        return answer(4, head);
-    }
-    answer(0, head)
 }

@@ -2,34 +2,22 @@
 // of input is and what is printed, and made the expected output.
 #![tactic(auto)]
 
+mod case;
 mod read;
-mod rows;
+mod row;
 mod show;
+mod store;
 
+use case::Case;
 use std::io;
-use std::io::Write;
-
-// The text line by line.
-fn lines<W: Write>(
-    out: &mut W,
-    text: &[u8],
-    calls: &mut [i32],
-    answers: &mut [i32],
-) -> io::Result<()> {
-    let mut s = read::start();
-    let mut at = 0;
-    while at < text.len() {
-        let end = read::next_line(text, at);
-        s = rows::line(out, &text[at..end], s, calls, answers)?;
-        at = end;
-    }
-    Ok(())
-}
 
 fn main(rt: HostRuntime) -> io::Result<()> {
     let mut text = [0u8; 65536];
     let n = print::read_full(&mut rt.stdin(), &mut text)?;
-    let mut calls = [0i32; 1100];
-    let mut answers = [0i32; 600];
-    lines(&mut rt.stdout(), &text[..n], &mut calls, &mut answers)
+    let mut out = rt.stdout();
+    let mut case = Case::new();
+    for line in text[..n].split_inclusive(|byte| *byte == b'\n') {
+        case.line(&mut out, line)?;
+    }
+    Ok(())
 }

@@ -1,11 +1,11 @@
 -- Laws of a fresh heap's rows. Assumes nothing.
 use mathlib.Core.Path.{◌≡◌, refl, sym, ap, ◌∙◌}
 use mathlib.Core.Option.{none}
-use mathlib.Core.List.{List, [], ◌∷◌, ◌++◌, map, append-nil, map-append}
-use Prim.Native.Nat.{ℕ, zero, suc, ◌+◌, ◌-◌, ◌*◌, ◌≤◌, ◌<◌}
+use mathlib.Core.List.{List, [], ◌∷◌, ◌++◌, map, map-append}
+use Prim.Native.Nat.{ℕ, zero, suc, ◌+◌, ◌-◌, ◌*◌, ◌<◌}
 use native.Mathlib.Numerals.{add-one}
 use native.Mathlib.Omega.{arith}
-use lib.ListN.{length, drop, get_or, set, replicate, length-map, drop_of_length-le}
+use lib.ListN.{length, drop, get_or, set, replicate, length-map}
 use lib.Seq.{drop-cons}
 use lib.IntN.{ℤ, negsuc}
 use Rattle.rules.specs.declared.Field.{Field}
@@ -47,12 +47,6 @@ module _ {B : Type 0} (f : Field → B) where
       let m : map f (free_from 0 (a + 1)) ≡ map f (free_from 0 a) ++ (f (Free (a + 1)) ∷ f Nothing ∷ []) =
       rw (add-one a, free_next a) (map-append f (free_from 0 a) (Free (suc a) ∷ Nothing ∷ [])) in
       g ∙ rw (e, w, m) (put_two (map f (free_from 0 a)) (drop (2 * (a + 1)) d) (get_or d (2 * a) x) (get_or d (suc (2 * a)) x) (f (Free (a + 1))) x (2 * a) p)
-
-  pub freed_all : (d l : List B) (a n : ℕ) → a ≤ n → n ≤ a → length d ≡ 2 * n → l ≡ map f (free_from 0 a) ++ drop (2 * a) d → l ≡ map f (free_from 0 n)
-  freed_all d l a n h k e g =
-      let q : a ≡ n = omega arith in
-      let z : length d ≤ 2 * n = omega arith in
-      g ∙ rw (q, drop_of_length-le d z) (append-nil (map f (free_from 0 n)))
 
 map-none : (m : ℕ) → map variable_of (replicate m none) ≡ replicate m (negsuc 0)
 map-none zero = refl

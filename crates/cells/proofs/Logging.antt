@@ -13,7 +13,10 @@ use Rattle.rules.specs.Heap.{Transaction, allocates, creates, destroys}
 use Rattle.rules.specs.Rows.{words}
 use Rattle.rules.specs.Whole.{Logged}
 use Rattle.rules.proofs.Roundtrip.{length-words}
-use Rattle.cells.specs.Log.{transaction}
+use Rattle.cells.specs.declared.Note.{Note}
+use Rattle.cells.specs.declared.Entry.{Entry}
+use Rattle.cells.specs.declared.Entry.TheVariants.{Allocate, Create, Destroy}
+use Rattle.cells.specs.Log.{transaction, note_of, logs_as, with_entry}
 use Rattle.cells.proofs.Filling.{put_two}
 
 pub words_append : (xs ys : List Transaction) → words (xs ++ ys) ≡ words xs ++ words ys
@@ -23,13 +26,10 @@ words_append (creates a ∷ xs) ys = ap (λ (l : List ℕ). 2 ∷ a ∷ l) (word
 words_append (destroys a ∷ xs) ys = ap (λ (l : List ℕ). 3 ∷ a ∷ l) (words_append xs ys)
 
 -- the two words of an entry
-words_of : (k a : ℕ) → 1 ≤ k → k ≤ 3 → words (transaction k a ∷ []) ≡ k ∷ a ∷ []
-unfolding transaction
-words_of zero a h l = absurd (omega arith)
-words_of (suc zero) a h l = refl
-words_of (suc (suc zero)) a h l = refl
-words_of (suc (suc (suc zero))) a h l = refl
-words_of (suc (suc (suc (suc k)))) a h l = absurd (omega arith)
+words_of : (e : Entry) → words (logs_as e ∷ []) ≡ (note_of e).kind ∷ (note_of e).address ∷ []
+words_of (Allocate a) = refl
+words_of (Create a) = refl
+words_of (Destroy a) = refl
 
 pub logged-same : {n : ℕ} {log : List ℕ} {len : ℕ} {xs : List Transaction} → Logged n log len xs → Logged n log len (xs ++ [])
 logged-same {xs = xs} L = rw (append-nil xs) L
@@ -47,19 +47,21 @@ logged_none n l {log} e =
       small = λ i h. omega arith;
     }
 
-pub logged-more : {n : ℕ} {log log' : List ℕ} {len : ℕ} {xs : List Transaction} (k b : ℕ) → 1 ≤ k → k ≤ 3 → Logged n log len xs → 2 * len + 1 < length log → b < n
-    → log' ≡ set (set log (2 * len) k) (2 * len + 1) b → Logged n log' (len + 1) (xs ++ (transaction k b ∷ []))
-logged-more {n} {log} {log'} {len} {xs} k b k1 k3 L h s e =
+pub logged-more : {n : ℕ} {log log' : List ℕ} {len : ℕ} {xs : List Transaction} (e : Entry) → Logged n log len xs → 2 * len + 1 < length log
+    → (note_of e).address < n → log' ≡ with_entry log len (note_of e) → Logged n log' (len + 1) (xs ++ (logs_as e ∷ []))
+logged-more {n} {log} {log'} {len} {xs} x L h s e =
+    let k = (note_of x).kind in
+    let b = (note_of x).address in
     let c = L.count in
     let w = length-words xs in
     let p : length (words xs) ≡ 2 * len = omega arith in
     let g : length log' ≡ length log = ap length e ∙ simp length-set in
     let d : length log - length (words xs) ≡ suc (suc (length log - length (words xs ++ (k ∷ b ∷ [])))) = omega (arith, length-append (words xs) (k ∷ b ∷ [])) in
     record {
-      count = omega (arith, length-append xs (transaction k b ∷ []));
+      count = omega (arith, length-append xs (logs_as x ∷ []));
       fits = omega arith;
       row =
-          rw (g, words_append xs (transaction k b ∷ []), words_of k b k1 k3)
+          rw (g, words_append xs (logs_as x ∷ []), words_of x)
           (e ∙ ap (λ (l : List ℕ). set (set l (2 * len) k) (2 * len + 1) b) (L.row ∙ ap (λ (j : ℕ). words xs ++ replicate j 0) d)
           ∙ put_two (words xs) (replicate (length log - length (words xs ++ (k ∷ b ∷ []))) 0) 0 0 k b (2 * len) p);
       small = λ i l. at i (eqb i len) refl l;
@@ -68,11 +70,11 @@ logged-more {n} {log} {log'} {len} {xs} k b k1 k3 L h s e =
     at : (i : ℕ) (t : Bool) → eqb i len ≡ t → i < len + 1 → get_or log' (2 * i + 1) 0 < n
     at i true q l =
         let z = eqb-true i len q in
-        rw (e, z, get_or-set_same (set log (2 * len) k) (2 * len + 1) b 0 (simp length-set h)) s
+        rw (e, z, get_or-set_same (set log (2 * len) (note_of x).kind) (2 * len + 1) (note_of x).address 0 (simp length-set h)) s
     at i false q l =
         let z = eqb-false i len q in
         let m : i < len = under l z in
-        rw (e, get_or-set_other (set log (2 * len) k) (2 * len + 1) (2 * i + 1) b 0 (λ r. omega arith), get_or-set_other log (2 * len) (2 * i + 1) k 0 (λ r. omega arith))
+        rw (e, get_or-set_other (set log (2 * len) (note_of x).kind) (2 * len + 1) (2 * i + 1) (note_of x).address 0 (λ r. omega arith), get_or-set_other log (2 * len) (2 * i + 1) (note_of x).kind 0 (λ r. omega arith))
         (L.small i m)
       where
         under : i < len + 1 → (i ≡ len → ⊥) → i < len
@@ -112,3 +114,34 @@ logged-at {log} {i} {k} {a} ek ea n len xs L h =
     let r = L.row in
     let e = entry_at i xs (replicate (length log - length (words xs)) 0) (omega arith) in
     rw (ek, ea, add-one i) (rw (← r) at e)
+
+-- its kind is 1 to 3
+kind-known : (i : ℕ) (xs : List Transaction) (rest : List ℕ) → i < length xs → (1 ≤ get_or (words xs ++ rest) (2 * i) 0) × (get_or (words xs ++ rest) (2 * i) 0 ≤ 3)
+kind-known i [] rest h = absurd (omega arith)
+kind-known zero (allocates a ∷ xs) rest h = (omega arith, omega arith)
+kind-known zero (creates a ∷ xs) rest h = (omega arith, omega arith)
+kind-known zero (destroys a ∷ xs) rest h = (omega arith, omega arith)
+kind-known (suc i) (x ∷ xs) rest h = past x (kind-known i xs rest (omega arith))
+  where
+    p : 2 * suc i ≡ suc (suc (2 * i))
+    p = omega arith
+
+    past : (x : Transaction) → (1 ≤ get_or (words xs ++ rest) (2 * i) 0) × (get_or (words xs ++ rest) (2 * i) 0 ≤ 3)
+        → (1 ≤ get_or (words (x ∷ xs) ++ rest) (2 * suc i) 0) × (get_or (words (x ∷ xs) ++ rest) (2 * suc i) 0 ≤ 3)
+    past (allocates a) k = rw p k
+    past (creates a) k = rw p k
+    past (destroys a) k = rw p k
+
+pub logged-known : {log : List ℕ} {i : ℕ} (n len : ℕ) (xs : List Transaction) → Logged n log len xs → i < len → (1 ≤ get_or log (2 * i) 0) × (get_or log (2 * i) 0 ≤ 3)
+logged-known {log} {i} n len xs L h =
+    let c = L.count in
+    let r = L.row in
+    let e = kind-known i xs (replicate (length log - length (words xs)) 0) (omega arith) in
+    rw (← r) at e
+
+-- for callers: the entry whose words were read is the one that the log has there
+pub logs-of : (n : Note) (e : Entry) → n ≡ note_of e → transaction n.kind n.address ≡ logs_as e
+unfolding transaction
+logs-of n (Allocate a) q = rw q
+logs-of n (Create a) q = rw q
+logs-of n (Destroy a) q = rw q

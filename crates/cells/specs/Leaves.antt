@@ -1,7 +1,8 @@
--- What a variable is to hold, from an address that may be none. Assumes nothing.
-use Rattle.std.specs.Prelude.{ℕ, cond, ltb}
+-- What a variable can be given to hold. Assumes nothing.
+use Rattle.std.specs.Prelude.{ℕ, ◌<◌}
 use Rattle.std.proofs.Math.Option.{Option, none, some}
 
--- a, or nothing where a is n or more
-abbrev pub held_as : ℕ → ℕ → Option ℕ
-held_as n a = cond (ltb a n) (some a) none
+-- nothing, or an address below 2,048
+abbrev pub Near : Option ℕ → Type 0
+Near none = Unit {0}
+Near (some a) = a < 2048

@@ -3,3 +3,4 @@ pub mod Leaves
 pub mod Log
 pub mod Free
 pub mod Marks
+pub mod Lending

@@ -1,4 +1,3 @@
-pub mod Signed
 pub mod Fields
 pub mod Walks
 pub mod Steps

@@ -1,6 +1,6 @@
 -- Two tables walked in step with the address. Assumes nothing.
 use Prim.Native.Nat.{ℕ, zero, suc, ◌+◌, ◌<◌, ◌≤◌}
-use mathlib.Core.Path.{◌≡◌, refl, sym, ◌∙◌}
+use mathlib.Core.Path.{◌≡◌, refl}
 use mathlib.Core.Bool.{Bool, true, false}
 use mathlib.Core.List.{List}
 use native.Mathlib.Omega.{arith}
@@ -18,9 +18,6 @@ pub record WalkPlace (row : List ℕ) (used a z : ℕ) : Type 0 where
   pub most : z ≤ used
   pub below : (j : ℕ) → j < z → get_or row j 0 < a
   pub above : z < used → a ≤ get_or row z 0
-
-pub begin : (row : List ℕ) (used : ℕ) → WalkPlace row used 0 0
-begin row used = record { most = omega arith; below = λ j h. absurd (omega arith); above = λ h. omega arith }
 
 module _ (n : ℕ) (ks row : List ℕ) (used : ℕ) (t : TableRow n ks row used) where
   pub up : (i j : ℕ) → i < j → j < used → get_or row i 0 < get_or row j 0
@@ -68,13 +65,6 @@ module _ (n : ℕ) (ks row : List ℕ) (used : ℕ) (t : TableRow n ks row used)
             other : (j z : ℕ) → z ≤ j → (j ≡ z → ⊥) → z < j
             other j z g d = omega arith
 
-  pub all : (a z : ℕ) → WalkPlace row used a z → n ≤ a → z ≡ used
-  all a z p h = go (ltb z used) refl
-    where
-      go : (q : Bool) → ltb z used ≡ q → z ≡ used
-      go true e = let k = ltb-true z used e in let w = p.above k in let v = (t.live z k).cell in absurd (omega arith)
-      go false e = let k = ltb-false z used e in let w = p.most in omega arith
-
 -- what has been compared once the address is a
 pub record Gone (h : Head) (ks : List ℕ) (t : TableRows) (count : ℕ → ℕ) (a z q : ℕ) : Type 0 where
   pub zplace : WalkPlace t.zct h.zct a z
@@ -88,20 +78,6 @@ pub record Gone (h : Head) (ks : List ℕ) (t : TableRows) (count : ℕ → ℕ)
   pub exact : (j : ℕ) → j < q → get_or t.counts j 0 < h.sizes.cap → count (get_or t.mrt j 0) ≡ get_or t.counts j 0
 
 module _ (h : Head) (ks : List ℕ) (t : TableRows) (count : ℕ → ℕ) where
-  pub gone-none : Gone h ks t count 0 0 0
-  gone-none =
-      record {
-        zplace = begin t.zct h.zct;
-        qplace = begin t.mrt h.mrt;
-        most = omega arith;
-        zmost = omega arith;
-        qmost = omega arith;
-        apart = λ i k. absurd (omega arith);
-        one = λ b k. absurd (omega arith);
-        none = λ j k. absurd (omega arith);
-        exact = λ j k. absurd (omega arith);
-      }
-
   -- a is ZCT's next cell, MRT's next cell
   abbrev pub InZct : ℕ → ℕ → Type 0
   InZct a z = At t.zct h.zct z a
@@ -167,30 +143,8 @@ module _ (h : Head) (ks : List ℕ) (t : TableRows) (count : ℕ → ℕ) where
           exact = g.exact;
         }
 
-    pub agreed : h.sizes.n ≤ a → Agree h ks t count
-    agreed end =
-        let ez = all h.sizes.n ks t.zct h.zct T.zct_row a z g.zplace end in
-        let eq = all h.sizes.n ks t.mrt h.mrt T.mrt_row a q g.qplace end in
-        record {
-          apart = λ i j k l. g.apart i (omega arith) j (omega arith);
-          one = λ b l. g.one b (let w = l.cell in omega arith) l;
-          none = λ j k. g.none j (omega arith);
-          exact = λ j k. g.exact j (omega arith);
-        }
-
     pub lonely : a < h.sizes.n → (InZct a z → ⊥) → (InMrt a q → ⊥) → (((mark ks a ≡ 3 → ⊥) → count a ≡ 1) → ⊥) → Agree h ks t count → ⊥
     lonely l d i k A =
         let no-zct = out h.sizes.n ks t.zct h.zct T.zct_row a z g.zplace d in
         let no-mrt = out h.sizes.n ks t.mrt h.mrt T.mrt_row a q g.qplace i in
         k (λ u. A.one a (record { cell = l; used = u }) no-zct no-mrt)
-
--- tables that agree, at an address where both, or the count, say otherwise
-module _ {h : Head} {ks : List ℕ} {t : TableRows} {count : ℕ → ℕ} {a : ℕ} (z q : ℕ) (A : Agree h ks t count) where
-  pub both : At t.zct h.zct z a → At t.mrt h.mrt q a → ⊥
-  both i j = A.apart z q i.0 j.0 (i.1 ∙ sym j.1)
-
-  pub busy : At t.zct h.zct z a → (count a ≡ 0 → ⊥) → ⊥
-  busy i d = d (rw i.1 at (A.none z i.0))
-
-  pub wrong : At t.mrt h.mrt q a → ((get_or t.counts q 0 < h.sizes.cap → count a ≡ get_or t.counts q 0) → ⊥) → ⊥
-  wrong j d = d (rw j.1 at (A.exact q j.0))

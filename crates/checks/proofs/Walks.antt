@@ -7,14 +7,12 @@ use mathlib.Core.List.{List, [], ◌∷◌, ◌++◌, append-nil}
 use native.Mathlib.Omega.{arith}
 use lib.Dec.{eqb}
 use lib.IntN.{ℤ, pos}
-use lib.ListN.{length, get_or, set, replicate, length-set, length-replicate}
+use lib.ListN.{length, get_or, set, length-set}
 use lib.Seq.{get_or-set_same, get_or-set_other, ext_get_or}
 use borrow.Author.Tests.{eqb-true, eqb-false}
 use Rattle.rules.specs.Field.{address_of}
 use Rattle.rules.specs.Sound.{mark, next, FreePath, times, FreeList}
-use Rattle.rules.proofs.Answers.{is, isn't}
 use Rattle.rules.proofs.Tables.{eqb_self}
-use Rattle.rules.proofs.Positions.{zeros-at}
 use Rattle.checks.specs.Walk.{Met, Stopped, Walked, AllMet, zeros}
 
 times-append : (b : ℕ) (l m : List ℕ) → times b (l ++ m) ≡ times b l + times b m
@@ -51,16 +49,6 @@ module _ (n : ℕ) (ks : List ℕ) (vs : List ℤ) where
       (along (next n vs from) l at m to c.1.1.1 d.1.1.1)
 
   module _ (first : ℕ) where
-    pub start : (work : List ℕ) → work ≡ replicate n 0 → Met n ks vs first first work
-    start work e =
-        record {
-          list = [];
-          path = refl;
-          marks = λ b. rw e (zeros-at n b);
-          single = λ b. omega arith;
-          long = rw e (length-replicate n 0);
-        }
-
     pub turn : (at : ℕ) (work : List ℕ) → Met n ks vs first at work → at < n → mark ks at ≡ 3 → get_or work at 0 ≡ 0 → Met n ks vs first (next n vs at) (set work at 1)
     turn at work m h k z =
         record {
@@ -123,12 +111,6 @@ module _ (n : ℕ) (ks : List ℕ) (vs : List ℤ) where
     pub turned : (at : ℕ) (work : List ℕ) → Met n ks vs first at work → at < n → mark ks at ≡ 3 → get_or work at 0 ≡ 0
         → (y : ℤ) → y ≡ get_or vs (2 * at) (pos 0) → (t : ℕ) → t ≡ address_of (n + 1) y → Met n ks vs first t (set work at 1)
     turned at work m h k z y b t e = rw (e, b) (turn at work m h k z)
-
-    pub walked : (work : List ℕ) → Met n ks vs first n work → Walked true n ks vs first work
-    walked work m = record { to = n; met = m; stopped = λ h. absurd (omega arith); answer = is refl }
-
-    pub refused : (at : ℕ) (work : List ℕ) → Met n ks vs first at work → Stopped n ks at work → (at ≡ n → ⊥) → Walked false n ks vs first work
-    refused at work m k d = record { to = at; met = m; stopped = k; answer = isn't d }
 
     -- ---- for callers: what a walk's answer says of the free list
 

@@ -2,107 +2,84 @@
 #![tactic(auto)]
 
 ghost use Rattle.std.specs.Prelude.{◌≡◌};
-ghost use Rattle.rules.specs.Lending.{rows_now};
-ghost use Rattle.rules.specs.Refusals.{leaves, leaves_with, fresh_of, audit_of, batch_of};
+ghost use Rattle.rules.specs.Refusals.{numbers_of, leaves, leaves_with, fresh_of, audit_of, batch_of};
+ghost use Rattle.heap.specs.Judging.{Judged};
+ghost use Rattle.cells.specs.Lending.{lent_in, shown_in, SameRows};
 
-use audit::{answer, sized, sound};
+use audit::{sized, sound};
 use cells::fresh_rows;
-use rules::{Head, Outcome, Sizes};
+pub use cells::{Fields, Rows, View};
+use rules::{Head, Outcome, Refused, Sizes};
+pub use tables::Tables;
 use words::calls_right;
 use working::run_batch;
 
-// A fresh heap of the sizes, written into the rows: 0 and its head, or 1 and a head of zeros.
-pub fn fresh(
-    sizes: Sizes,
-    kinds: &mut [u8],
-    values: &mut [i32],
-    variables: &mut [i32],
-    zct: &mut [u32],
-    mrt: &mut [u32],
-    counts: &mut [u32],
-    log: &mut [u32],
-    work: &mut [u32],
-) -> Outcome
-    ensures { leaves result (rows_now kinds.new values.new variables.new zct.new mrt.new counts.new log.new work.new)
-        ≡ fresh_of sizes (rows_now kinds.old values.old variables.old zct.old mrt.old counts.old log.old work.old) }
+// A fresh heap of the sizes, written into the rows: its head and a count of 0, or a head of zeros and what says no.
+pub fn fresh(sizes: Sizes, rows: &mut Rows, work: &mut [u32]) -> Outcome
+    ensures same { SameRows rows.old rows.new }
+    ensures leaves { leaves (numbers_of result) (lent_in rows.new work.new) ≡ fresh_of sizes (lent_in rows.old work.old) }
 {
     let head = Head::fresh(sizes);
-    if !sized(
-        head,
-        kinds.len(),
-        values.len(),
-        variables.len(),
-        zct.len(),
-        mrt.len(),
-        counts.len(),
-        log.len(),
-        work.len(),
-    ) {
-        return answer(1, Head::fresh(Sizes::plain(0, 0, 0, 0)));
+    if !sized(head, rows.view().lengths(work)) {
+        return Outcome {
+            head: Head::fresh(Sizes::plain(0, 0, 0, 0)),
+            count: Err(Refused::Limits),
+        };
     }
-    fresh_rows(kinds, values, variables, zct, mrt, counts, log, work, sizes);
-    answer(0, head)
+    fresh_rows(rows, work, sizes);
+    Outcome { head, count: Ok(0) }
 }
 
-// Is the heap sound? 0 for yes; 1 where a number or a length is outside its limits, else 4.
-pub fn audit(
-    head: Head,
-    kinds: &[u8],
-    values: &[i32],
-    variables: &[i32],
-    zct: &[u32],
-    mrt: &[u32],
-    counts: &[u32],
-    log: &[u32],
-    work: &mut [u32],
-) -> Outcome
-    ensures { leaves result (rows_now kinds.now values.now variables.now zct.now mrt.now counts.now log.now work.new)
-        ≡ audit_of head (rows_now kinds.now values.now variables.now zct.now mrt.now counts.now log.now work.old) }
+// Is the heap sound? No cells freed for yes; what says no where a number or a length is outside its limits, or it isn't.
+pub fn audit(head: Head, view: View<'_>, work: &mut [u32]) -> Outcome
+    ensures { leaves (numbers_of result) (shown_in view.entry work.new) ≡ audit_of head (shown_in view.entry work.old) }
 {
-    audit::audit(head, kinds, values, variables, zct, mrt, counts, log, work)
+    audit::audit(head, view, work)
+}
+
+// What says no to a batch, in the order of the numbers.
+// Stays: the audit's two tests, and between them the two of the calls, in the order of the numbers.
+fn judge(
+    head: Head,
+    view: View<'_>,
+    work: &mut [u32],
+    calls: &[i32],
+    answers: &[i32],
+) -> Result<(), Refused>
+    ensures { Judged head (shown_in view.entry work.old) calls.now answers.now (shown_in view.entry work.new) result }
+{
+    if !sized(head, view.lengths(work)) {
+        return Err(Refused::Limits);
+    }
+    if !calls_right(calls, head.sizes.m) {
+        return Err(Refused::Calls);
+    }
+    if answers.len() < calls.len() / 2 {
+        return Err(Refused::Answers);
+    }
+    let good = sound(head, view, work);
+    if !good {
+        return Err(Refused::Unsound);
+    }
+    Ok(())
 }
 
 // A batch of calls, four words each; their answers, two words each, go into the answers row.
 pub fn batch(
     head: Head,
-    kinds: &mut [u8],
-    values: &mut [i32],
-    variables: &mut [i32],
-    zct: &mut [u32],
-    mrt: &mut [u32],
-    counts: &mut [u32],
-    log: &mut [u32],
+    rows: &mut Rows,
     work: &mut [u32],
     calls: &[i32],
     answers: &mut [i32],
 ) -> Outcome
-    ensures { leaves_with result (rows_now kinds.new values.new variables.new zct.new mrt.new counts.new log.new work.new) answers.new
-        ≡ batch_of head (rows_now kinds.old values.old variables.old zct.old mrt.old counts.old log.old work.old) calls.now answers.old }
+    ensures same { SameRows rows.old rows.new }
+    ensures leaves { leaves_with (numbers_of result) (lent_in rows.new work.new) answers.new ≡ batch_of head (lent_in rows.old work.old) calls.now answers.old }
 {
-    if !sized(
-        head,
-        kinds.len(),
-        values.len(),
-        variables.len(),
-        zct.len(),
-        mrt.len(),
-        counts.len(),
-        log.len(),
-        work.len(),
-    ) {
-        return answer(1, head);
+    match judge(head, rows.view(), work, calls, answers) {
+        Err(refused) => Outcome {
+            head,
+            count: Err(refused),
+        },
+        Ok(()) => run_batch(calls, rows, work, answers, head),
     }
-    if !calls_right(calls, head.sizes.m) {
-        return answer(2, head);
-    }
-    if answers.len() < calls.len() / 2 {
-        return answer(3, head);
-    }
-    let good = sound(head, kinds, values, variables, zct, mrt, counts, log, work);
-    if !good {
-        return answer(4, head);
-    }
-    run_batch(
-        calls, kinds, values, variables, zct, mrt, counts, log, work, answers, head,
-    )
 }

@@ -1,4 +1,3 @@
 -- the laws that belong to no one function
-pub mod Signs
 pub mod Appending
 pub mod Taking

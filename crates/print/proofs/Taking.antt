@@ -1,15 +1,10 @@
 -- Laws of bytes taken from a stream one after the other. Assumes nothing.
-use Rattle.std.proofs.Common.{◌≡◌, ℕ, ◌+◌, ◌≤◌, List, ◌++◌, length, take, sym, ap, subst, ◌∙◌, append_assoc, arith, Option, None, Some, length-append, length-take-le}
+use Rattle.std.proofs.Common.{◌≡◌, ℕ, ◌+◌, ◌≤◌, List, ◌++◌, length, take, sym, ap, subst, ◌∙◌, arith, Option, length-append, length-take-le}
 use Rattle.std.proofs.Math.Seq.{take-append-add}
 use Rattle.std.proofs.lemmas.List.{take-append-le}
+use Rattle.std.proofs.KnownBytes.{Consumes-trans}
 use Rattle.std.specs.Io.KnownBytes.{Consumes}
 use Rattle.print.specs.Filling.{Taken}
-
-pub consumes_both : (old mid new : Option (List ℕ)) (xs ys : List ℕ) → Consumes old mid xs → Consumes mid new ys → Consumes old new (xs ++ ys)
-consumes_both None mid new xs ys p q = tt
-consumes_both (Some os) None new xs ys p q = absurd p
-consumes_both (Some os) (Some ms) None xs ys p q = absurd q
-consumes_both (Some os) (Some ms) (Some ns) xs ys p q = p ∙ ap (λ (l : List ℕ). xs ++ l) q ∙ sym (append_assoc xs ys ns)
 
 -- n bytes more, which stand behind the row's first i
 pub taken_more : (old mid new : Option (List ℕ)) (row part rest : List ℕ) (i n : ℕ) → Taken old mid row i → Consumes mid new (take n part) → n ≤ length part
@@ -21,5 +16,5 @@ taken_more old mid new row part rest i n T q h =
     ∙ ap (λ (b : List ℕ). take i row ++ b) (take-append-le n part rest h) in
     record {
       within = simp length-append (omega arith);
-      taken = subst (λ (b : List ℕ). Consumes old new b) (sym e) (consumes_both old mid new _ _ T.taken q);
+      taken = subst (λ (b : List ℕ). Consumes old new b) (sym e) (Consumes-trans old mid new _ _ T.taken q);
     }

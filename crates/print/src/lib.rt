@@ -1,15 +1,18 @@
 // What the two programs do with a stream: they print bytes, and a number after some, and read it into a row.
 #![tactic(auto)]
 
-ghost use Rattle.std.specs.Prelude.{◌≡◌, ◌++◌, nat_abs, decimal};
-ghost use Rattle.std.specs.Fmt.{signed_decimal};
+ghost use Rattle.std.specs.Prelude.{◌++◌};
 ghost use Rattle.print.specs.Printing.{Prints};
 ghost use Rattle.print.specs.Filling.{Fills};
 
 use itoa::Buffer;
+pub use itoa::Integer;
 use std::io;
 use std::io::{ErrorKind, Read, Write};
 
+// Prints the bytes, or at an `Err` only the first of them.
+// Stays: std's write_all says nothing of the bytes at an `Err`, which `Prints` does.
+#[tactic(auto, using(crate::proofs::Appending::appends_more))]
 pub fn text<W: Write>(out: &mut W, bytes: &[u8]) -> io::Result<()>
     ensures { Prints (W.contents out.old) (W.contents out.new) bytes.now result }
 {
@@ -24,44 +27,20 @@ pub fn text<W: Write>(out: &mut W, bytes: &[u8]) -> io::Result<()>
     Ok(())
 }
 
-pub fn number<W: Write>(out: &mut W, before: &[u8], n: usize) -> io::Result<()>
-    ensures { Prints (W.contents out.old) (W.contents out.new) (before.now ++ decimal n) result }
+// The bytes, and a number after them: its text is `decimal n`, or `signed_decimal n` of a signed type.
+#[tactic(auto, using(crate::proofs::Appending::prints_then, crate::proofs::Appending::prints_failed))]
+pub fn number<W: Write, N: Integer>(out: &mut W, before: &[u8], n: N) -> io::Result<()>
+    ensures { Prints (W.contents out.old) (W.contents out.new) (before.now ++ N.text n) result }
 {
     text(out, before)?;
     let mut buffer = Buffer::new();
-    text(out, buffer.format(n).as_bytes())
-}
-
-pub fn word<W: Write>(out: &mut W, before: &[u8], x: u32) -> io::Result<()>
-    ensures { Prints (W.contents out.old) (W.contents out.new) (before.now ++ decimal x) result }
-{
-    text(out, before)?;
-    let mut buffer = Buffer::new();
-    text(out, buffer.format(x).as_bytes())
-}
-
-pub fn signed<W: Write>(out: &mut W, before: &[u8], x: i32) -> io::Result<()>
-    ensures { Prints (W.contents out.old) (W.contents out.new) (before.now ++ signed_decimal x) result }
-{
-    text(out, before)?;
-    if x < 0 {
-        text(out, b"-")?;
-    }
-    let mut buffer = Buffer::new();
-    text(out, buffer.format(size(x)).as_bytes())
-}
-
-// A number without its sign.
-fn size(x: i32) -> u64
-    ensures { result ≡ nat_abs x }
-{
-    if x < 0 {
-        return (-1 - x) as u64 + 1;
-    }
-    x as u64
+    let digits = buffer.format(n);
+    text(out, digits.as_bytes())
 }
 
 // Reads until the row is full or the stream ends; how many bytes it put at the row's front.
+// Stays: std's read_exact fails where the stream ends early, which is no failure here.
+#[tactic(auto, using(crate::proofs::Taking::taken_more))]
 pub fn read_full<R: Read>(input: &mut R, row: &mut [u8]) -> io::Result<usize>
     ensures { Fills (R.remaining input.old) (R.remaining input.new) row.new result }
 {

@@ -2,39 +2,28 @@
 #![tactic(auto)]
 
 ghost use Rattle.std.specs.Prelude.{◌≡◌, ◌<◌, ◌≤◌, length};
-ghost use Rattle.reader.specs.Reading.{said_after_lem, read_at, reader_at_lem};
+ghost use Rattle.rules.specs.Field.{option_of};
+ghost use Rattle.reader.specs.Reading.{said_after_lem, Reads, NextRead, reader_at_lem};
 
 use script::{Line, first_line, later_line, line_at, line_next};
 
-// What a line says, its number, and where the next starts.
+// What a line says (nothing where it is bad), its number, and where the next starts.
 #[derive(Clone, Copy)]
 pub struct Read {
-    pub line: Line,
+    pub line: Option<Line>,
     pub number: usize,
     pub next: usize,
 }
 
 // What a line says after so many: the first says the heap, the others are over its m variables.
-fn said_after(line: &[u8], number: usize, m: usize) -> Line
-    ensures { result ≡ said_after_lem number m line.now }
+// Stays: the number says which line is the first: `said_after_lem`, and so the promise `Reads`, goes by it.
+fn said_after(line: &[u8], number: usize, m: usize) -> Option<Line>
+    ensures { option_of result ≡ said_after_lem number m line.now }
 {
     if number == 0 {
         first_line(line)
     } else {
         later_line(line, m)
-    }
-}
-
-// The line that starts at a place, after so many, over m variables.
-fn scan(text: &[u8], at: usize, number: usize, m: usize) -> Read
-    requires { (at ≤ length text.now) × (number < 1000000) }
-    ensures { result ≡ read_at m text.now at number }
-{
-    let line = said_after(line_at(text, at), number, m);
-    Read {
-        line,
-        number: number + 1,
-        next: line_next(text, at),
     }
 }
 
@@ -46,25 +35,38 @@ pub struct Reader<'a> {
     pub number: usize,
 }
 
-// A reader at a place, after so many lines.
-pub fn reader_at<'a>(text: &'a [u8], at: usize, number: usize) -> Reader<'a>
-    ensures { result ≡ reader_at_lem text.entry at number }
-{
-    Reader { text, at, number }
-}
+impl<'a> Reader<'a> {
+    // A reader at a place, after so many lines.
+    pub fn at(text: &'a [u8], at: usize, number: usize) -> Reader<'a>
+        ensures { result ≡ reader_at_lem text.entry at number }
+    {
+        Reader { text, at, number }
+    }
 
-// What a reader reads, over m variables.
-pub fn next_line<'a>(r: Reader<'a>, m: usize) -> Read
-    requires { (r.at ≤ length r.text.now) × (r.number < 1000000) }
-    ensures { result ≡ read_at m r.entry.text.now r.entry.at r.entry.number }
-{
-    scan(r.text, r.at, r.number, m)
-}
+    // What it reads at its place, over m variables.
+    pub fn read(self, m: usize) -> Read
+        requires { (self.at ≤ length self.text.now) × (self.number < 1000000) }
+        ensures { Reads m self.entry.text.now self.entry.at self.entry.number result }
+    {
+        let line = line_at(self.text, self.at);
+        Read {
+            line: said_after(line, self.number, m),
+            number: self.number + 1,
+            next: line_next(self.text, self.at),
+        }
+    }
 
-// The line that starts at a place of a script, after so many, over m variables: a reader's.
-pub fn read_line(text: &[u8], at: usize, number: usize, m: usize) -> Read
-    requires { (at ≤ length text.now) × (number < 1000000) }
-    ensures { result ≡ read_at m text.now at number }
-{
-    next_line(reader_at(text, at, number), m)
+    // The next line, over m variables, behind which it goes on; none where no line is left.
+    pub fn next_line(&mut self, m: usize) -> Option<Read>
+        requires { self.old.number < 1000000 }
+        ensures { NextRead m self.old result self.new }
+    {
+        if self.text.len() <= self.at {
+            return None;
+        }
+        let read = self.read(m);
+        self.at = read.next;
+        self.number = read.number;
+        Some(read)
+    }
 }

@@ -3,7 +3,7 @@ use mathlib.Core.Path.{◌≡◌, refl, sym, ap, ◌∙◌}
 use mathlib.Core.Bool.{Bool, true, false, cond}
 use mathlib.Core.Option.{Option, none, some}
 use mathlib.Core.List.{List, [], ◌∷◌, ◌++◌}
-use Prim.Native.Nat.{ℕ, zero, suc, ◌+◌, ◌-◌, ◌*◌, ◌≤◌, ◌<◌, zero-le, suc-le-suc}
+use Prim.Native.Nat.{ℕ, zero, suc, ◌+◌, ◌-◌, ◌≤◌, ◌<◌, zero-le, suc-le-suc}
 use native.Mathlib.Nat.{le_of_suc-le-suc, not-suc-le-zero}
 use native.Mathlib.Numerals.{add-one}
 use native.Mathlib.Omega.{arith}
@@ -29,12 +29,10 @@ use Rattle.rules.proofs.Unique.{is-take}
 use Rattle.tables.specs.Row.{place}
 use Rattle.tables.proofs.Laws.{place_upto, place-used}
 use Rattle.rules.proofs.Positions.{has-at, all_at}
-use Rattle.tables.proofs.Places.{has-place}
+use Rattle.tables.proofs.Places.{has-place, place-low}
 use Rattle.tables.proofs.Single.{is-padded}
 use Rattle.cells.specs.Marks.{Marks}
-use Rattle.cells.proofs.Storing.{cell-lengths}
-use Rattle.reclaim.specs.Reclaiming.{low_to, Heaped, Freed, Scan, Unheld, AfterTurns}
-use Rattle.reclaim.specs.declared.Turn.{Turn}
+use Rattle.reclaim.specs.Reclaiming.{low_to, Heaped, Freed, Scan, Marked, Bare, AfterTurns}
 
 -- ---- turns
 
@@ -64,21 +62,12 @@ module _ (hs : List (Option ℕ)) where
 
 -- ---- a scan of ZCT
 
--- what stands before a's place is below a
-place-low : (a : ℕ) (z : List ℕ) (i : ℕ) → i < place a z → get_or z i 0 < a
-place-low a [] i h = absurd (not-suc-le-zero h)
-place-low a (x ∷ z) i h = go (ltb x a) refl i (place-low a z) h
-  where
-    go : (b : Bool) → ltb x a ≡ b → (i : ℕ) → ((i : ℕ) → i < place a z → get_or z i 0 < a) → i < cond (ltb x a) (suc (place a z)) zero → get_or (x ∷ z) i 0 < a
-    go true e zero ih h = ltb-true x a e
-    go true e (suc i) ih h = ih i (le_of_suc-le-suc (rw e at h))
-    go false e i ih h = absurd (not-suc-le-zero (rw e at h))
-
-pub scan_from : {zs : List ℕ} {used : ℕ} {work : List ℕ} {low : ℕ} → Scan zs used work low → (p : ℕ) → p ≡ place low (take used zs)
-    → (p ≤ used) × ((i : ℕ) → i < p → get_or work (get_or zs i 0) 0 ≡ 1)
-scan_from {zs} {used} {work} {low} S p e =
-    let u : p ≤ used = rw e (place-used zs used S.fits low) in
-    (u, λ i l. let q : i < used = omega arith in S.below i q (rw (get_or-take used zs i 0 q) at (place-low low (take used zs) i (rw e at l))))
+-- what stands before low's place has a mark
+pub scan_from : {zs : List ℕ} {used : ℕ} {work : List ℕ} {low : ℕ} → Scan zs used work low → (p : ℕ) → p ≡ place low (take used zs) → Marked zs work p
+scan_from {zs} {used} {work} {low} S p e i l =
+    let u = place-used zs used S.fits low in
+    let q : i < used = omega arith in
+    S.below i q (rw (get_or-take used zs i 0 q) at (place-low low (take used zs) i (rw e at l)))
 
 -- ---- the address below which ZCT has only cells that are held
 
@@ -130,53 +119,34 @@ mark-not : (b : Bool) → (◌≡◌ {A = ℕ} (cond b 1 0) 1 → ⊥) → b ≡
 mark-not true h = absurd (h refl)
 mark-not false h = refl
 
--- the rows' lengths
-pub record HeapLengths (n : ℕ) (r : HeapRows) : Type 0 where
-  pub kinds : length r.kinds ≡ 2 * n
-  pub values : length r.values ≡ 2 * n
-  pub zct : length r.tables.zct ≡ n
-  pub mrt : length r.tables.mrt ≡ n
-  pub counts : length r.tables.counts ≡ n
+pub heaped : {n cap : ℕ} {r : HeapRows} {at : State} {h : Heap} → Rows n cap r at h → at.freed ≤ 2000000 → Heaped cap r at
+heaped {h = h} R few = record { heap = h; rows = rw R.ready.are.zct_is.long R; few = few }
 
-module _ {n cap : ℕ} {r : HeapRows} {at : State} {h : Heap} (R : Rows n cap r at h) where
-  pub lengths : HeapLengths n r
-  lengths =
-      record {
-        kinds = (cell-lengths R.cells).0;
-        values = (cell-lengths R.cells).1;
-        zct = R.ready.are.zct_is.long;
-        mrt = R.ready.are.mrt_is.long;
-        counts = R.ready.are.counts_is.long;
-      }
+-- the rows after k turns that each freed a cell, and an address below which ZCT has only cells that are held
+pub record TurnsGoing (n cap : ℕ) (hs : List (Option ℕ)) (k : ℕ) (r : HeapRows) (at : State) (h : Heap) (o : State) (low : ℕ) : Type 0 where
+  pub rows : Rows n cap r o (reclaim cap hs k h)
+  pub len : o.len ≡ at.len
+  pub count : o.freed ≡ at.freed + k
+  pub below : (w : ℕ) → has w (reclaim cap hs k h).tables.zct ≡ true → w < low → holds w hs ≡ true
 
-  pub heaped : at.freed ≤ 2000000 → Heaped cap r at
-  heaped few = record { heap = h; rows = rw R.ready.are.zct_is.long R; few = few }
-
--- the rows after k turns that each freed a cell
-pub record TurnsGoing (n cap : ℕ) (hs : List (Option ℕ)) (k : ℕ) (r : HeapRows) (at : State) (h : Heap) (t : Turn) : Type 0 where
-  pub rows : Rows n cap r t.at (reclaim cap hs k h)
-  pub len : t.at.len ≡ at.len
-  pub count : t.at.freed ≡ at.freed + k
-  pub below : (w : ℕ) → has w (reclaim cap hs k h).tables.zct ≡ true → w < t.low → holds w hs ≡ true
-
-pub going_first : {n cap : ℕ} {r : HeapRows} {at : State} {h : Heap} (hs : List (Option ℕ)) → Rows n cap r at h → TurnsGoing n cap hs 0 r at h (record { at = at; low = 0 })
+pub going_first : {n cap : ℕ} {r : HeapRows} {at : State} {h : Heap} (hs : List (Option ℕ)) → Rows n cap r at h → TurnsGoing n cap hs 0 r at h at 0
 unfolding reclaim
 going_first hs R = record { rows = R; len = refl; count = omega arith; below = λ w e l. absurd (not-suc-le-zero l) }
 
-module _ {n cap : ℕ} {hs : List (Option ℕ)} {k : ℕ} {r : HeapRows} {at : State} {h : Heap} {t : Turn} {work : List ℕ}
-    (G : TurnsGoing n cap hs k r at h t) (M : Marks n work hs) where
-  entries : take t.at.used.zct r.tables.zct ≡ (reclaim cap hs k h).tables.zct
+module _ {n cap : ℕ} {hs : List (Option ℕ)} {k : ℕ} {r : HeapRows} {at : State} {h : Heap} {s : State} {low : ℕ} {work : List ℕ}
+    (G : TurnsGoing n cap hs k r at h s low) (M : Marks n work hs) where
+  entries : take s.used.zct r.tables.zct ≡ (reclaim cap hs k h).tables.zct
   entries = is-take G.rows.ready.are.zct_is
 
-  entry : (i : ℕ) → i < t.at.used.zct → get_or (reclaim cap hs k h).tables.zct i 0 ≡ get_or r.tables.zct i 0
-  entry i l = rw (← entries) (get_or-take t.at.used.zct r.tables.zct i 0 l)
+  entry : (i : ℕ) → i < s.used.zct → get_or (reclaim cap hs k h).tables.zct i 0 ≡ get_or r.tables.zct i 0
+  entry i l = rw (← entries) (get_or-take s.used.zct r.tables.zct i 0 l)
 
-  small : (i : ℕ) → i < t.at.used.zct → get_or r.tables.zct i 0 < n
+  small : (i : ℕ) → i < s.used.zct → get_or r.tables.zct i 0 < n
   small i l =
       let c = G.rows.ready.are.zct_is.count in
       rw (entry i l) at (all_at (λ y. y < n) (reclaim cap hs k h).tables.zct G.rows.ready.kept.zct_below i (omega arith))
 
-  pub scan : Scan r.tables.zct t.at.used.zct work t.low
+  pub scan : Scan r.tables.zct s.used.zct work low
   scan =
       record {
         fits = (is-padded G.rows.ready.are.zct_is).fits;
@@ -188,55 +158,58 @@ module _ {n cap : ℕ} {hs : List (Option ℕ)} {k : ℕ} {r : HeapRows} {at : S
             M.marks (get_or r.tables.zct i 0) (small i l) ∙ ap (λ (t : Bool). cond t 1 0) o;
       }
 
-  module _ {p : ℕ} (U : Unheld r.tables.zct t.at.used.zct work p) where
-    held-before : (i : ℕ) → i < p → holds (get_or (reclaim cap hs k h).tables.zct i 0) hs ≡ true
-    held-before i l =
-        let w = U.within in
-        let q : i < t.at.used.zct = omega arith in
-        rw (entry i q) (mark-one (holds (get_or r.tables.zct i 0) hs) (sym (M.marks (get_or r.tables.zct i 0) (small i q)) ∙ U.marked i l))
+  held-before : {p : ℕ} → p ≤ s.used.zct → Marked r.tables.zct work p → (i : ℕ) → i < p → holds (get_or (reclaim cap hs k h).tables.zct i 0) hs ≡ true
+  held-before u U i l =
+      let q : i < s.used.zct = omega arith in
+      rw (entry i q) (mark-one (holds (get_or r.tables.zct i 0) hs) (sym (M.marks (get_or r.tables.zct i 0) (small i q)) ∙ U i l))
 
-    -- an entry with no mark is the cell to take
-    module _ (l : p < t.at.used.zct) where
-      picked : pick hs (reclaim cap hs k h).tables.zct ≡ some (get_or r.tables.zct p 0)
-      picked =
-          let c = G.rows.ready.are.zct_is.count in
-          let g = entry p l in
-          rw (← g)
-          (picks_at hs (reclaim cap hs k h).tables.zct p held-before (omega arith)
-          (rw g (mark-not (holds (get_or r.tables.zct p 0) hs) (λ e. U.bare l (M.marks (get_or r.tables.zct p 0) (small p l) ∙ e)))))
+  -- an entry with no mark is the cell to take
+  module _ {p : ℕ} (U : Bare r.tables.zct s.used.zct work p) where
+    before : (i : ℕ) → i < p → holds (get_or (reclaim cap hs k h).tables.zct i 0) hs ≡ true
+    before = let l = U.here in held-before (omega arith) U.marked
 
-      pub going_next : {r' : HeapRows} {t' : Turn} → Freed n cap (get_or r.tables.zct p 0) r' t.at (reclaim cap hs k h) t' → TurnsGoing n cap hs (k + 1) r' at h t'
-      unfolding free_cell
-      going_next {t' = t'} F =
-          let e = reclaim-next cap hs h k (get_or r.tables.zct p 0) picked in
-          let c = G.rows.ready.are.zct_is.count in
-          let d = G.count in
-          let i = F.rows.freed in
-          let j = G.rows.freed in
-          record {
-            rows = rw e F.rows;
-            len = F.len ∙ G.len;
-            count = omega arith;
-            below = λ w o b.
-                let a : ℕ = get_or r.tables.zct p 0 in
-                let fs = (reclaim cap hs k h).shape.fields in
-                let q = has-released cap a w (field fs a 0) (field fs a 1) (reclaim cap hs k h).tables (rw F.low at b) (rw e at o) in
-                let g = entry p l in
-                let r = has-before (reclaim cap hs k h).tables.zct p w G.rows.ready.kept.zct_up (omega arith) q.1 (rw (← g) at q.0) in
-                rw r.1 at (held-before (place w (reclaim cap hs k h).tables.zct) r.0);
-          }
+    picked : pick hs (reclaim cap hs k h).tables.zct ≡ some (get_or r.tables.zct p 0)
+    picked =
+        let l = U.here in
+        let c = G.rows.ready.are.zct_is.count in
+        let g = entry p l in
+        rw (← g)
+        (picks_at hs (reclaim cap hs k h).tables.zct p before (omega arith)
+        (rw g (mark-not (holds (get_or r.tables.zct p 0) hs) (λ e. U.bare (M.marks (get_or r.tables.zct p 0) (small p l) ∙ e)))))
 
-    -- where there is none, the turns that are left change nothing
-    pub done_early : (m : ℕ) → t.at.used.zct ≤ p → k ≤ m → AfterTurns n cap hs m r at h t.at
-    done_early m l o =
+    pub going_next : {r' : HeapRows} {s' : State} {low' : ℕ} → Freed n cap (get_or r.tables.zct p 0) r' s (reclaim cap hs k h) s' low' → TurnsGoing n cap hs (k + 1) r' at h s' low'
+    unfolding free_cell
+    going_next F =
+        let e = reclaim-next cap hs h k (get_or r.tables.zct p 0) picked in
+        let l = U.here in
         let c = G.rows.ready.are.zct_is.count in
         let d = G.count in
-        let none_left : pick hs (reclaim cap hs k h).tables.zct ≡ none = picks_none hs (reclaim cap hs k h).tables.zct (λ i b. held-before i (omega arith)) in
-        let j : m - k + k ≡ m = omega arith in
-        let e : reclaim cap hs m h ≡ reclaim cap hs k h = rw j at (reclaim_still cap hs h k none_left (m - k)) in
-        record { rows = rw e G.rows; len = G.len; grows = omega arith; few = omega arith }
+        let i = F.rows.freed in
+        let j = G.rows.freed in
+        record {
+          rows = rw e F.rows;
+          len = F.len ∙ G.len;
+          count = omega arith;
+          below = λ w o b.
+              let a : ℕ = get_or r.tables.zct p 0 in
+              let fs = (reclaim cap hs k h).shape.fields in
+              let q = has-released cap a w (field fs a 0) (field fs a 1) (reclaim cap hs k h).tables (rw F.lowest at b) (rw e at o) in
+              let g = entry p l in
+              let r = has-before (reclaim cap hs k h).tables.zct p w G.rows.ready.kept.zct_up (omega arith) q.1 (rw (← g) at q.0) in
+              rw r.1 at (before (place w (reclaim cap hs k h).tables.zct) r.0);
+        }
 
-  pub done_late : (m : ℕ) → k ≤ m → m ≤ k → AfterTurns n cap hs m r at h t.at
+  -- where there is none, the turns that are left change nothing
+  pub done_early : Marked r.tables.zct work s.used.zct → (m : ℕ) → k ≤ m → AfterTurns n cap hs m r at h s
+  done_early U m l =
+      let c = G.rows.ready.are.zct_is.count in
+      let d = G.count in
+      let none_left : pick hs (reclaim cap hs k h).tables.zct ≡ none = picks_none hs (reclaim cap hs k h).tables.zct (λ i b. held-before (omega arith) U i (omega arith)) in
+      let j : m - k + k ≡ m = omega arith in
+      let e : reclaim cap hs m h ≡ reclaim cap hs k h = rw j at (reclaim_still cap hs h k none_left (m - k)) in
+      record { rows = rw e G.rows; len = G.len; grows = omega arith; few = omega arith }
+
+  pub done_late : (m : ℕ) → k ≤ m → m ≤ k → AfterTurns n cap hs m r at h s
   done_late m l o =
       let d = G.count in
       let e : m ≡ k = omega arith in

@@ -1,5 +1,6 @@
 -- Reclaiming as the code does it: a cell freed, the scan of ZCT for one with no mark, the turns. Assumes nothing.
 use Rattle.std.specs.Prelude.{ℕ, ◌+◌, ◌≤◌, ◌<◌, ◌≡◌, cond, List, ◌++◌, ltb, length, take, get_or}
+use Rattle.std.specs.Prelude as code
 use Rattle.std.proofs.Math.Option.{Option}
 use Rattle.rules.specs.declared.State.{State}
 use Rattle.rules.specs.declared.Field.{Field}
@@ -12,7 +13,6 @@ use Rattle.rules.specs.Settle.{free_cell, reclaim}
 use Rattle.rules.specs.Rows.{HeapRows}
 use Rattle.rules.specs.Whole.{Rows}
 use Rattle.cells.specs.Marks.{Marks}
-use Rattle.reclaim.specs.declared.Turn.{Turn}
 
 -- the smaller of low and the cell that a field names
 abbrev pub low_to : ℕ → Field → ℕ
@@ -32,14 +32,14 @@ pub record Heaped (cap : ℕ) (r : HeapRows) (at : State) : Type 0 where
   pub few : at.freed ≤ 2000000
 
 -- the rows are h with a freed, and low is a or the smaller of the cells that its fields named
-pub record Freed (n cap : ℕ) (a : ℕ) (r : HeapRows) (at : State) (h : Heap) (t : Turn) : Type 0 where
-  pub rows : Rows n cap r t.at (free_cell cap a h)
-  pub len : t.at.len ≡ at.len
-  pub low : t.low ≡ low_to (low_to a (field h.shape.fields a 0)) (field h.shape.fields a 1)
+pub record Freed (n cap : ℕ) (a : ℕ) (r : HeapRows) (at : State) (h : Heap) (o : State) (low : ℕ) : Type 0 where
+  pub rows : Rows n cap r o (free_cell cap a h)
+  pub len : o.len ≡ at.len
+  pub lowest : low ≡ low_to (low_to a (field h.shape.fields a 0)) (field h.shape.fields a 1)
 
 -- rows that are a heap are that heap with a freed
-abbrev pub FreesOne : ℕ → ℕ → HeapRows → State → HeapRows → Turn → Type 0
-FreesOne cap a r at r' t = (n : ℕ) (h : Heap) → Rows n cap r at h → Freed n cap a r' at h t
+abbrev pub FreesOne : ℕ → ℕ → HeapRows → State → HeapRows → State → ℕ → Type 0
+FreesOne cap a r at r' o low = (n : ℕ) (h : Heap) → Rows n cap r at h → Freed n cap a r' at h o low
 
 -- ZCT's used part, with its addresses in the work row, and with a mark for each below low
 pub record Scan (zs : List ℕ) (used : ℕ) (work : List ℕ) (low : ℕ) : Type 0 where
@@ -48,11 +48,20 @@ pub record Scan (zs : List ℕ) (used : ℕ) (work : List ℕ) (low : ℕ) : Typ
   pub small : (i : ℕ) → i < used → get_or zs i 0 < length work
   pub below : (i : ℕ) → i < used → get_or zs i 0 < low → get_or work (get_or zs i 0) 0 ≡ 1
 
--- r is the first place of an entry with no mark, or the used length
-pub record Unheld (zs : List ℕ) (used : ℕ) (work : List ℕ) (r : ℕ) : Type 0 where
-  pub within : r ≤ used
-  pub marked : (i : ℕ) → i < r → get_or work (get_or zs i 0) 0 ≡ 1
-  pub bare : r < used → get_or work (get_or zs r 0) 0 ≡ 1 → ⊥
+-- the first p entries have marks
+abbrev pub Marked : List ℕ → List ℕ → ℕ → Type 0
+Marked zs work p = (i : ℕ) → i < p → get_or work (get_or zs i 0) 0 ≡ 1
+
+-- p is the first place of an entry with no mark
+pub record Bare (zs : List ℕ) (used : ℕ) (work : List ℕ) (p : ℕ) : Type 0 where
+  pub here : p < used
+  pub marked : Marked zs work p
+  pub bare : get_or work (get_or zs p 0) 0 ≡ 1 → ⊥
+
+-- such a place, or none where each entry has a mark
+abbrev pub Unheld : List ℕ → ℕ → List ℕ → code.Option ℕ → Type 0
+Unheld zs used work (code.Some p) = Bare zs used work p
+Unheld zs used work code.None = Marked zs work used
 
 -- the rows are some heap, the work row marks some holds, and not too many cells were freed to count so many more
 pub record Reclaimable (cap : ℕ) (r : HeapRows) (work : List ℕ) (at : State) (turns : ℕ) : Type 0 where

@@ -5,13 +5,14 @@ ghost use Rattle.std.specs.Prelude.{◌≡◌, ◌<◌, length, get_or};
 ghost use Rattle.rules.specs.Rules.{replay};
 ghost use Rattle.rules.specs.Call.{drops};
 ghost use Rattle.rules.specs.Whole.{Inside};
-ghost use Rattle.rules.specs.Lending.{tables_now, heap_now};
 ghost use Rattle.tables.specs.Row.{Tabled, TablesBy};
+ghost use Rattle.tables.specs.Lending.{rows_in, SameTables};
+ghost use Rattle.cells.specs.Lending.{heap_in, SameFields};
 ghost use Rattle.reclaim.specs.Reclaiming.{low_to, released, Heaped, FreesOne, Scan, Unheld, Reclaimable, Reclaims};
 
-use cells::{field_at, free_cell};
+use cells::Fields;
 use rules::{Field, State, Used};
-use tables::{cut_at, destroy, find};
+use tables::{Tables, cut_at, find};
 
 // The smaller of low and the cell that a field names.
 fn lower_to(low: u32, f: Field) -> u32
@@ -19,146 +20,90 @@ fn lower_to(low: u32, f: Field) -> u32
     ensures { result ≡ low_to low f }
 {
     match f {
-        Field::Nothing => low,
-        Field::Figure(_) => low,
-        Field::Cell(b) => {
-            let c = b as u32;
-            if c < low { c } else { low }
-        }
-        Field::Free(_) => low,
+        Field::Cell(b) => low.min(b as u32),
+        Field::Nothing | Field::Figure(_) | Field::Free(_) => low,
     }
 }
 
 // A destroy for the target of a field that is let go, if it is a cell.
-fn let_go(
-    zct: &mut [u32],
-    mrt: &mut [u32],
-    counts: &mut [u32],
-    used: Used,
-    cap: u32,
-    f: Field,
-) -> Used
-    requires tabled { Tabled cap (tables_now zct.old mrt.old counts.old) used }
-    requires inside { Inside (length zct.old) f }
-    ensures { TablesBy cap (replay cap (drops f)) (tables_now zct.old mrt.old counts.old) used (tables_now zct.new mrt.new counts.new) result }
+fn let_go(tables: &mut Tables, used: &mut Used, cap: u32, f: Field)
+    requires tabled { Tabled cap (rows_in tables.old) used.old }
+    requires inside { Inside (length tables.old.zct.now) f }
+    ensures tables { TablesBy cap (replay cap (drops f)) (rows_in tables.old) used.old (rows_in tables.new) used.new }
+    ensures same { SameTables tables.old tables.new }
 {
-    match f {
-        Field::Nothing => used,
-        Field::Figure(_) => used,
-        Field::Cell(b) => destroy(zct, mrt, counts, used, cap, b as u32),
-        Field::Free(_) => used,
+    if let Field::Cell(b) = f {
+        tables.destroy(used, cap, b as u32);
     }
 }
 
 // Takes the entry at place p out of ZCT, and lets its cell's fields x and y go.
-fn release(
-    zct: &mut [u32],
-    mrt: &mut [u32],
-    counts: &mut [u32],
-    used: Used,
-    cap: u32,
-    p: usize,
-    x: Field,
-    y: Field,
-) -> Used
-    requires tabled { Tabled cap (tables_now zct.old mrt.old counts.old) used }
-    requires p_lt_zct { p < used.zct }
-    requires inside { Inside (length zct.old) x × Inside (length zct.old) y }
-    ensures { TablesBy cap (released cap (get_or zct.old p 0) x y) (tables_now zct.old mrt.old counts.old) used (tables_now zct.new mrt.new counts.new) result }
+fn release(tables: &mut Tables, used: &mut Used, cap: u32, p: usize, x: Field, y: Field)
+    requires tabled { Tabled cap (rows_in tables.old) used.old }
+    requires p_lt_zct { p < used.old.zct }
+    requires inside { Inside (length tables.old.zct.now) x × Inside (length tables.old.zct.now) y }
+    ensures tables { TablesBy cap (released cap (get_or tables.old.zct.now p 0) x y) (rows_in tables.old) used.old (rows_in tables.new) used.new }
+    ensures same { SameTables tables.old tables.new }
 {
-    let zused = used.zct;
-    let mused = used.mrt;
-    let z = cut_at(zct, zused, p);
-    let u = Used { zct: z, mrt: mused };
-    let w = let_go(zct, mrt, counts, u, cap, x);
-    let_go(zct, mrt, counts, w, cap, y)
+    used.zct = cut_at(&mut *tables.zct, used.zct, p);
+    let_go(tables, used, cap, x);
+    let_go(tables, used, cap, y);
 }
 
-// Where the reclaiming stands, and an address below which ZCT has only cells that are held.
-#[derive(Clone, Copy)]
-pub struct Turn {
-    pub at: State,
-    pub low: u32,
-}
-
-// FreesOne the cell at place p of ZCT.
-fn free_one(
-    kinds: &mut [u8],
-    values: &mut [i32],
-    zct: &mut [u32],
-    mrt: &mut [u32],
-    counts: &mut [u32],
-    at: State,
-    cap: u32,
-    p: usize,
-) -> Turn
-    requires heaped { Heaped cap (heap_now kinds.old values.old zct.old mrt.old counts.old) at }
-    requires p_lt_zct { p < at.used.zct }
-    ensures { FreesOne cap (get_or zct.old p 0) (heap_now kinds.old values.old zct.old mrt.old counts.old) at (heap_now kinds.new values.new zct.new mrt.new counts.new) result }
+// Frees the cell at place p of ZCT. The smallest of it and the cells that its fields named.
+fn free_one(fields: &mut Fields, tables: &mut Tables, at: &mut State, cap: u32, p: usize) -> u32
+    requires heaped { Heaped cap (heap_in fields.old tables.old) at.old }
+    requires p_lt_zct { p < at.old.used.zct }
+    ensures freed { FreesOne cap (get_or tables.old.zct.now p 0) (heap_in fields.old tables.old) at.old (heap_in fields.new tables.new) at.new result }
+    ensures same { SameFields fields.old fields.new × SameTables tables.old tables.new }
 {
-    let w = zct[p];
+    let w = tables.zct[p];
     let a = w as usize;
-    let first = at.first;
-    let used = at.used;
-    let x = field_at(kinds, values, 2 * a);
-    let y = field_at(kinds, values, 2 * a + 1);
-    let u = release(zct, mrt, counts, used, cap, p, x, y);
-    free_cell(kinds, values, a, first);
-    let l = lower_to(w, x);
-    let low = lower_to(l, y);
-    let next = State {
-        len: at.len,
-        first: a,
-        used: u,
-        freed: at.freed + 1,
-    };
-    Turn { at: next, low: low }
+    let x = fields.field_at(2 * a);
+    let y = fields.field_at(2 * a + 1);
+    release(tables, &mut at.used, cap, p, x, y);
+    fields.free_cell(a, at.first);
+    at.first = a;
+    at.freed += 1;
+    let low = lower_to(w, x);
+    lower_to(low, y)
 }
 
-// The place of the first entry of ZCT with no mark, from low's place on: the used length where there is none.
-fn unheld(zct: &[u32], used: usize, work: &[u32], low: u32) -> usize
+// The place of the first entry of ZCT with no mark, where below low each has one.
+// Stays: find, which is public, takes the row and its used length, and `Scan` and `Unheld` speak of both.
+fn unheld(zct: &[u32], used: usize, work: &[u32], low: u32) -> Option<usize>
     requires { Scan zct.now used work.now low }
     ensures { Unheld zct.now used work.now result }
 {
-    let mut p = find(zct, used, low);
-    while p < used {
-        let a = zct[p] as usize;
-        if work[a] != 1 {
-            return p;
+    let (Ok(from) | Err(from)) = find(zct, used, low);
+    for p in from..used {
+        if work[zct[p] as usize] != 1 {
+            return Some(p);
         }
-        p += 1;
     }
-    p
+    None
 }
 
 // While some ZCT cell has no mark, frees the one with the smallest address: at most `most` of them.
 pub fn reclaim(
-    kinds: &mut [u8],
-    values: &mut [i32],
-    zct: &mut [u32],
-    mrt: &mut [u32],
-    counts: &mut [u32],
+    fields: &mut Fields,
+    tables: &mut Tables,
     work: &[u32],
-    at: State,
+    at: &mut State,
     cap: u32,
     most: usize,
-) -> State
-    requires { Reclaimable cap (heap_now kinds.old values.old zct.old mrt.old counts.old) work.now at most }
-    ensures { Reclaims cap most work.now (heap_now kinds.old values.old zct.old mrt.old counts.old) at (heap_now kinds.new values.new zct.new mrt.new counts.new) result }
+)
+    requires { Reclaimable cap (heap_in fields.old tables.old) work.now at.old most }
+    ensures reclaims { Reclaims cap most work.now (heap_in fields.old tables.old) at.old (heap_in fields.new tables.new) at.new }
+    ensures same { SameFields fields.old fields.new × SameTables tables.old tables.new }
 {
-    let mut turn = Turn { at: at, low: 0 };
-    let mut k = 0;
-    while k < most {
-        let now = turn.at;
-        let used = now.used;
-        let zused = used.zct;
-        let p = unheld(zct, zused, work, turn.low);
-        if zused <= p {
-            return now;
-        }
-        turn = free_one(kinds, values, zct, mrt, counts, now, cap, p);
-        k += 1;
+    // below it ZCT has only cells that are held
+    let mut low = 0;
+    for _turn in 0..most {
+        let zct = &mut *tables.zct;
+        let Some(p) = unheld(zct, at.used.zct, work, low) else {
+            return;
+        };
+        low = free_one(fields, tables, at, cap, p);
     }
-    let last = turn.at;
-    last
 }

@@ -1,4 +1,4 @@
--- Document 01 as definitions, in its order: read these beside it. Lending: the rows as a contract names them. Invariant: what holds in the middle of a
+-- Document 01 as definitions, in its order: read these beside it. Invariant: what holds in the middle of a
 -- batch. Moment: words for what happens there. Decide: that soundness is decided. After Run: the letter, and worked cases.
 pub mod Head
 pub mod Field
@@ -10,7 +10,6 @@ pub mod Rules
 pub mod Settle
 pub mod Step
 pub mod Whole
-pub mod Lending
 pub mod Invariant
 pub mod Moment
 pub mod Sound

@@ -1,10 +1,12 @@
 -- Numbers that say no, in the order 1, 2, 3, 4; and the ONE outcome of each entry point for every input. Assumes nothing.
-use Rattle.std.specs.Prelude.{ℕ, ◌*◌, Bool, true, false, cond, List, [], ◌∷◌, ◌++◌, leb, length, drop, replicate, ℤ, pos}
+use Rattle.std.specs.Prelude.{ℕ, ◌*◌, Bool, true, false, cond, List, [], ◌∷◌, ◌++◌, leb, length, drop, replicate, ℤ, pos, Result, Ok, Err}
 use Rattle.std.proofs.Math.Option.{Option, none, some}
 use Rattle.rules.specs.declared.Head.{Head}
 use Rattle.rules.specs.declared.Sizes.{Sizes}
 use Rattle.rules.specs.declared.Call.{Call}
 use Rattle.rules.specs.declared.Outcome.{Outcome}
+use Rattle.rules.specs.declared.Refused.{Refused}
+use Rattle.rules.specs.declared.Refused.TheVariants.{Limits, Calls, Answers, Unsound}
 use Rattle.rules.specs.Head.{fresh_head, zero_head}
 use Rattle.rules.specs.Call.{Answer, calls_in}
 use Rattle.rules.specs.Step.{batch, fresh}
@@ -26,24 +28,45 @@ is_sized h r = test (sized? h r)
 unfoldable pub is_sound : Head → Lent → Bool
 is_sound h r = test (sound? h r)
 
+-- what an entry point returns, in numbers: 0 or the number that says no, the head, the cells freed
+pub record Numbers : Type 0 where
+  pub status : ℕ
+  pub head : Head
+  pub count : ℕ
+
 -- what fresh and audit leave
 pub record After : Type 0 where
-  pub outcome : Outcome
+  pub outcome : Numbers
   pub rows : Lent
 
 -- what a batch leaves
 pub record Batched : Type 0 where
-  pub outcome : Outcome
+  pub outcome : Numbers
   pub rows : Lent
   pub answers : List ℤ
 
-abbrev pub outcome : ℕ → Head → ℕ → Outcome
+abbrev pub outcome : ℕ → Head → ℕ → Numbers
 outcome k h c = record { status = k; head = h; count = c }
 
-abbrev pub leaves : Outcome → Lent → After
+-- the number of each refusal
+abbrev pub number_of : Refused → ℕ
+number_of Limits = 1
+number_of Calls = 2
+number_of Answers = 3
+number_of Unsound = 4
+
+-- an outcome in numbers: 0 and the cells freed, or the number that says no and a count of 0
+abbrev pub counted_as : Head → Result ℕ Refused → Numbers
+counted_as h (Ok c) = outcome 0 h c
+counted_as h (Err e) = outcome (number_of e) h 0
+
+abbrev pub numbers_of : Outcome → Numbers
+numbers_of o = counted_as o.head o.count
+
+abbrev pub leaves : Numbers → Lent → After
 leaves o r = record { outcome = o; rows = r }
 
-abbrev pub leaves_with : Outcome → Lent → List ℤ → Batched
+abbrev pub leaves_with : Numbers → Lent → List ℤ → Batched
 leaves_with o r row = record { outcome = o; rows = r; answers = row }
 
 -- work row zero, else everything as it was

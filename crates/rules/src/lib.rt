@@ -1,8 +1,11 @@
 // The types of the heap: its head, a field, a call, an outcome. What they mean stands in specs/.
 #![tactic(auto)]
 
-ghost use Rattle.std.specs.Prelude.{◌≡◌};
+ghost use Rattle.std.specs.Prelude.{◌≡◌, pos};
 ghost use Rattle.rules.specs.Head.{sized, fresh_head, Limits, Within, Says};
+ghost use Rattle.rules.specs.Field.{kind_of, kind_byte, kind_from};
+ghost use Rattle.rules.specs.Call.{no_of};
+ghost use Rattle.rules.specs.Refusals.{number_of};
 
 // What stays the same through a heap's life: cells, variables, log entries, the cap of a count.
 #[repr(C)]
@@ -36,35 +39,21 @@ impl Sizes {
     pub fn plain(n: usize, m: usize, l: usize, cap: usize) -> Sizes
         ensures { result ≡ sized n m l cap }
     {
-        Sizes {
-            n: n,
-            m: m,
-            l: l,
-            cap: cap,
-        }
+        Sizes { n, m, l, cap }
     }
 
     // Are the sizes within their limits?
     pub fn within(self) -> bool
         ensures { Says result (Limits self) }
     {
-        let n = self.n;
-        let m = self.m;
-        let l = self.l;
-        let cap = self.cap;
-        if n < Sizes::CELLS_LEAST || Sizes::CELLS_MOST < n {
-            return false;
-        }
-        if m < Sizes::VARIABLES_LEAST || Sizes::VARIABLES_MOST < m {
-            return false;
-        }
-        if l < Sizes::ENTRIES_LEAST || Sizes::ENTRIES_MOST < l {
-            return false;
-        }
-        if cap < Sizes::CAP_LEAST || Sizes::CAP_MOST < cap {
-            return false;
-        }
-        true
+        Sizes::CELLS_LEAST <= self.n
+            && self.n <= Sizes::CELLS_MOST
+            && Sizes::VARIABLES_LEAST <= self.m
+            && self.m <= Sizes::VARIABLES_MOST
+            && Sizes::ENTRIES_LEAST <= self.l
+            && self.l <= Sizes::ENTRIES_MOST
+            && Sizes::CAP_LEAST <= self.cap
+            && self.cap <= Sizes::CAP_MOST
     }
 }
 
@@ -84,7 +73,7 @@ impl Head {
         ensures { result ≡ fresh_head sizes }
     {
         Head {
-            sizes: sizes,
+            sizes,
             free: 0,
             zct: 0,
             mrt: 0,
@@ -95,15 +84,45 @@ impl Head {
     pub fn within(self) -> bool
         ensures { Says result (Within self) }
     {
-        let sizes = self.sizes;
-        let n = sizes.n;
-        if !sizes.within() {
-            return false;
+        let n = self.sizes.n;
+        self.sizes.within() && self.free <= n && self.zct <= n && self.mrt <= n
+    }
+}
+
+// The kind of a field, by the byte that says it.
+#[derive(Clone, Copy, PartialEq, Eq, Debug)]
+pub enum Kind {
+    Nothing = 0,
+    Figure = 1,
+    Cell = 2,
+    Free = 3,
+}
+
+// A byte that is no kind.
+#[derive(Clone, Copy, PartialEq, Eq, Debug)]
+pub struct NoKind(pub u8);
+
+impl From<Kind> for u8 {
+    ghost from_gives = { λ k r. r ≡ kind_byte k };
+
+    fn from(kind: Kind) -> u8 {
+        kind as u8
+    }
+}
+
+impl TryFrom<u8> for Kind {
+    type Error = NoKind;
+
+    ghost try_from_gives = { λ b r. kind_from b r };
+
+    fn try_from(byte: u8) -> Result<Kind, NoKind> {
+        match byte {
+            0 => Ok(Kind::Nothing),
+            1 => Ok(Kind::Figure),
+            2 => Ok(Kind::Cell),
+            3 => Ok(Kind::Free),
+            _ => Err(NoKind(byte)),
         }
-        if n < self.free || n < self.zct || n < self.mrt {
-            return false;
-        }
-        true
     }
 }
 
@@ -114,6 +133,20 @@ pub enum Field {
     Figure(i32),
     Cell(usize),
     Free(usize),
+}
+
+impl Field {
+    // Its kind.
+    pub fn kind(self) -> Kind
+        ensures { kind_byte result ≡ kind_of self }
+    {
+        match self {
+            Field::Nothing => Kind::Nothing,
+            Field::Figure(_) => Kind::Figure,
+            Field::Cell(_) => Kind::Cell,
+            Field::Free(_) => Kind::Free,
+        }
+    }
 }
 
 // What a call does but new and settle: it names variables, fields (0 or 1) and figures.
@@ -153,11 +186,44 @@ pub struct State {
     pub freed: usize,
 }
 
-// What an entry point returns: 0 or the number that says no, the head, the cells freed.
-#[repr(C)]
+// What says no to a call, by the number that its answer has.
+#[derive(Clone, Copy, PartialEq, Eq, Debug)]
+pub enum Refusal {
+    NothingHeld = 11,
+    NoCell = 12,
+    CellThere = 13,
+    NoneFree = 14,
+    NothingThere = 15,
+}
+
+impl From<Refusal> for i32 {
+    ghost from_gives = { λ e r. r ≡ pos (no_of e) };
+
+    fn from(refusal: Refusal) -> i32 {
+        refusal as i32
+    }
+}
+
+// What says no to a fresh call, an audit or a batch, by its number.
+#[derive(Clone, Copy, PartialEq, Eq, Debug)]
+pub enum Refused {
+    Limits = 1,
+    Calls = 2,
+    Answers = 3,
+    Unsound = 4,
+}
+
+impl From<Refused> for usize {
+    ghost from_gives = { λ e r. r ≡ number_of e };
+
+    fn from(refused: Refused) -> usize {
+        refused as usize
+    }
+}
+
+// What an entry point returns: the head, and the cells freed or what says no.
 #[derive(Clone, Copy)]
 pub struct Outcome {
-    pub status: usize,
     pub head: Head,
-    pub count: usize,
+    pub count: Result<usize, Refused>,
 }

@@ -1,212 +1,114 @@
--- Laws of a line: by its length, its word and its fields. Assumes nothing.
-use Prim.Native.Nat.{ℕ, suc, ◌+◌, ◌≤◌, ◌<◌}
-use mathlib.Core.Path.{◌≡◌, refl, sym, ◌∙◌}
-use mathlib.Core.Bool.{Bool, true, false, cond}
-use mathlib.Core.Option.{Option, none, some}
-use mathlib.Core.List.{List, [], ◌∷◌}
-use native.Mathlib.Omega.{arith}
-use lib.Dec.{leb}
-use lib.ListN.{length, get_or}
-use lib.IntN.{ℤ, pos}
-use borrow.Author.Tests.{eq-eqb, ne_eqb, le-leb, lt-leb, leb-false}
+-- Laws of what a line says: a word that is no operation, and numbers that are too large. Assumes nothing.
+use Rattle.std.proofs.Common.{◌≡◌, ℕ, ◌+◌, ◌<◌, Bool, true, false, cond, eqb, leb, List, [], length, get_or, refl, ◌∙◌, arith, pos, ℤ}
+use Rattle.std.proofs.Math.Option.{Option, none, some}
+use borrow.Author.Tests.{leb-false}
 use Rattle.rules.specs.Call.{call_of}
 use Rattle.rules.specs.Head.{Limits, Says, sized}
+use Rattle.rules.specs.declared.Sizes.{Sizes}
 use Rattle.rules.specs.Refusals.{is_within}
 use Rattle.rules.proofs.Tests.{within-says}
-use Rattle.words.specs.Words.{is_some}
-use Rattle.script.specs.Text.{bytes, same_bytes, more_fields, fields_of}
-use Rattle.script.specs.Number.{number_of, plain_of, figure_of}
-use Rattle.script.specs.Line.{word_in, operations, operation_of, arity, word_of, call_if, call_with, call_line, operation_line, line_of, on_number, heap_line, head_line_of, as_word, capped}
-use Rattle.script.proofs.Meaning.{with_one, with_two, with_three, with_four}
-use Rattle.rules.specs.declared.Call.{Call}
+use Rattle.script.specs.Number.{number_of}
+use Rattle.script.specs.Line.{arity, call_with, operation_line, word_of, on_number, heap_line, capped}
 use Rattle.script.specs.declared.Line.{Line}
 use Rattle.script.specs.declared.Line.TheVariants as L
-use Rattle.script.specs.declared.Word.TheVariants.{Number, Wrong}
-
--- ---- the words of an operation
-
-pub word-nought : (k i : ℕ) (fs : List (List ℕ)) → arity k < i → word_of k i fs ≡ some (pos 0)
-unfolding word_of
-word-nought k i fs h = rw (lt-leb i (arity k) h)
-
-pub word-plain : (k i : ℕ) (fs : List (List ℕ)) → i ≤ arity k → (k ≡ 5 → ⊥) → word_of k i fs ≡ plain_of (get_or fs i [])
-unfolding word_of
-word-plain k i fs h d = rw (le-leb i (arity k) h, ne_eqb k 5 d)
-
-pub word-plain_2 : (k i : ℕ) (fs : List (List ℕ)) → i ≤ arity k → k ≡ 5 → (i ≡ 3 → ⊥) → word_of k i fs ≡ plain_of (get_or fs i [])
-unfolding word_of
-word-plain_2 k i fs h e d = rw (le-leb i (arity k) h, eq-eqb k 5 e, ne_eqb i 3 d)
-
-pub word-figure : (k i : ℕ) (fs : List (List ℕ)) → i ≤ arity k → k ≡ 5 → i ≡ 3 → word_of k i fs ≡ figure_of (get_or fs i [])
-unfolding word_of
-word-figure k i fs h e d = rw (le-leb i (arity k) h, eq-eqb k 5 e, eq-eqb i 3 d)
-
--- ---- which operation word it is, by the tests of the code in their order
-
--- it is this one
-pub word-here : (k : ℕ) (w : List ℕ) (ws : List (List ℕ)) (bs : List ℕ) {t : Bool} → t ≡ same_bytes bs w → t ≡ true → k ≡ word_in k (w ∷ ws) bs
-unfolding word_in
-word-here k w ws bs e h = rw (sym e ∙ h)
-
--- it is not this one
-pub word_on : (k : ℕ) (w : List ℕ) (ws : List (List ℕ)) (bs : List ℕ) {t : Bool} {r : ℕ} → t ≡ same_bytes bs w → t ≡ false → r ≡ word_in (suc k) ws bs → r ≡ word_in k (w ∷ ws) bs
-unfolding word_in
-word_on k w ws bs e h q = rw (sym e ∙ h) q
-
--- it is none
-pub word_past : (k : ℕ) (bs : List ℕ) → 0 ≡ word_in k [] bs
-unfolding word_in
-word_past k bs = refl
-
-word_in_most : (k : ℕ) (ws : List (List ℕ)) (bs : List ℕ) → word_in k ws bs ≤ k + length ws
-unfolding word_in
-word_in_most k [] bs = omega arith
-word_in_most k (w ∷ ws) bs = go (same_bytes bs w) (word_in_most (suc k) ws bs)
-  where
-    go : (q : Bool) → word_in (suc k) ws bs ≤ suc k + length ws → cond q k (word_in (suc k) ws bs) ≤ k + suc (length ws)
-    go true h = omega arith
-    go false h = omega arith
-
-pub operation-most : (bs : List ℕ) → operation_of bs ≤ 12
-operation-most bs = word_in_most 1 operations bs
-
--- ---- a call's line
-
-pub word_some : (o : Option ℤ) (x : ℤ) → as_word o ≡ Number x → o ≡ some x
-word_some none x h = absurd (let z : ◌≡◌ {A = ℕ} 0 1 = cc in omega arith)
-word_some (some y) x h = cc
-
-pub word_none : (o : Option ℤ) → as_word o ≡ Wrong → o ≡ none
-word_none none h = refl
-word_none (some y) h = absurd (let z : ◌≡◌ {A = ℕ} 0 1 = cc in omega arith)
-
--- what a call's line is, from its words
-module _ (m : ℕ) (op : ℤ) (o₁ o₂ o₃ : Option ℤ) where
-  pub no-first : as_word o₁ ≡ Wrong → L.Bad ≡ call_with m op o₁ o₂ o₃
-  unfolding call_with
-  no-first e = rw (word_none o₁ e)
-
-  pub no_second : (a : ℤ) → as_word o₁ ≡ Number a → as_word o₂ ≡ Wrong → L.Bad ≡ call_with m op o₁ o₂ o₃
-  unfolding call_with
-  no_second a d e = rw (word_some o₁ a d, word_none o₂ e)
-
-  pub no_third : (a b : ℤ) → as_word o₁ ≡ Number a → as_word o₂ ≡ Number b → as_word o₃ ≡ Wrong → L.Bad ≡ call_with m op o₁ o₂ o₃
-  unfolding call_with
-  no_third a b c d e = rw (word_some o₁ a c, word_some o₂ b d, word_none o₃ e)
-
-  module _ (a b c : ℤ) (ea : as_word o₁ ≡ Number a) (eb : as_word o₂ ≡ Number b) (ec : as_word o₃ ≡ Number c) where
-    pub call-yes : true ≡ is_some (call_of m op a b c) → L.Call op a b c ≡ call_with m op o₁ o₂ o₃
-    unfolding call_with
-    call-yes e = rw (word_some o₁ a ea, word_some o₂ b eb, word_some o₃ c ec) (go (call_of m op a b c) e)
-      where
-        go : (o : Option Call) → true ≡ is_some o → L.Call op a b c ≡ call_if o (L.Call op a b c)
-        go none h = absurd (let z : ◌≡◌ {A = ℕ} 0 1 = cc in omega arith)
-        go (some x) h = refl
-
-    pub call-no : false ≡ is_some (call_of m op a b c) → L.Bad ≡ call_with m op o₁ o₂ o₃
-    unfolding call_with
-    call-no e = rw (word_some o₁ a ea, word_some o₂ b eb, word_some o₃ c ec) (go (call_of m op a b c) e)
-      where
-        go : (o : Option Call) → false ≡ is_some o → L.Bad ≡ call_if o (L.Call op a b c)
-        go none h = refl
-        go (some x) h = absurd (let z : ◌≡◌ {A = ℕ} 0 1 = cc in omega arith)
+use Rattle.script.proofs.Meaning.{with_four, with_three, with_two, with_one}
 
 -- ---- a line after the first
 
-module _ (m : ℕ) (bs : List ℕ) where
-  pub line_long : 80 < length bs → line_of m bs ≡ L.Bad
-  unfolding line_of
-  line_long h = rw (lt-leb (length bs) 80 h)
+no_call : (m : ℕ) (a b c : Option ℤ) → call_with m (pos 0) a b c ≡ none
+unfolding call_with call_of
+no_call m none b c = refl
+no_call m (some a) none c = refl
+no_call m (some a) (some b) none = refl
+no_call m (some a) (some b) (some c) = refl
 
-  module _ (op : ℕ) (short : length bs ≤ 80) (is : op ≡ operation_of (get_or (fields_of bs) 0 [])) where
-    line_short : line_of m bs ≡ operation_line m op (fields_of bs)
-    unfolding line_of
-    line_short = rw (le-leb (length bs) 80 short, is)
-
-    pub line_other : (length (more_fields bs) ≡ arity op → ⊥) → line_of m bs ≡ L.Bad
-    unfolding operation_line
-    line_other d = line_short ∙ rw (ne_eqb (suc (length (more_fields bs))) (arity op + 1) (λ e. d (omega arith)))
-
-    module _ (full : length (more_fields bs) ≡ arity op) where
-      pub line_batch : op ≡ 11 → line_of m bs ≡ L.Batch
-      unfolding operation_line
-      line_batch e = line_short ∙ rw (eq-eqb (suc (length (more_fields bs))) (arity op + 1) (omega arith), eq-eqb op 11 e)
-
-      pub line_call : (op ≡ 11 → ⊥) → line_of m bs ≡ call_line m op (fields_of bs)
-      unfolding operation_line
-      line_call d = line_short ∙ rw (eq-eqb (suc (length (more_fields bs))) (arity op + 1) (omega arith), ne_eqb op 11 d)
+-- a word that is no operation makes a line bad, whatever follows
+pub no_operation : (m : ℕ) (fs : List (List ℕ)) → operation_line m 0 fs ≡ none
+unfolding operation_line
+no_operation m fs = go (eqb (length fs) (arity 0 + 1)) (no_call m (word_of 0 1 fs) (word_of 0 2 fs) (word_of 0 3 fs))
+  where
+    go : {x : Option Line} (q : Bool) → x ≡ none → cond q x none ≡ none
+    go true e = e
+    go false e = refl
 
 -- ---- line 1
 
-module _ (bs : List ℕ) where
-  pub head-long : 80 < length bs → head_line_of bs ≡ L.Bad
-  unfolding head_line_of
-  head-long h = rw (lt-leb (length bs) 80 h)
-
-  pub head_other : length bs ≤ 80 → (length (fields_of bs) ≡ 5 → ⊥) → head_line_of bs ≡ L.Bad
-  unfolding head_line_of
-  head_other h d = rw (le-leb (length bs) 80 h, ne_eqb (suc (length (more_fields bs))) 5 d)
-
-  pub head-word : (q : Bool) → length bs ≤ 80 → length (fields_of bs) ≡ 5 → same_bytes (get_or (fields_of bs) 0 []) (bytes "heap") ≡ q → head_line_of bs ≡ cond q (heap_line (fields_of bs)) L.Bad
-  unfolding head_line_of
-  head-word q h e w = rw (le-leb (length bs) 80 h, eq-eqb (suc (length (more_fields bs))) 5 e, w)
-
--- a number that is bad when it is too large may be taken capped
-on-capped : (o : Option ℕ) (f : ℕ → Line) → ((n : ℕ) → 2147483648 < n → f n ≡ L.Bad) → on_number o f ≡ f (capped o)
-on-capped none f h = sym (h 2147483649 (omega arith))
-on-capped (some n) f h = go (leb n 2147483648) refl
+-- a number that is bad when it is too large may be taken as far as it counts
+on_capped : (o : Option ℕ) (f : ℕ → Option Line) → ((n : ℕ) → 2147483648 < n → f n ≡ none) → on_number o f ≡ on_number (capped o) f
+on_capped none f h = refl
+on_capped (some n) f h = go (leb n 2147483648) refl
   where
-    go : (q : Bool) → leb n 2147483648 ≡ q → f n ≡ f (cond q n 2147483649)
+    go : (q : Bool) → leb n 2147483648 ≡ q → f n ≡ on_number (cond q (some n) none) f
     go true e = refl
-    go false e = h n (leb-false n 2147483648 e) ∙ sym (h 2147483649 (omega arith))
+    go false e = h n (leb-false n 2147483648 e)
 
-on_bad : (o : Option ℕ) (f : ℕ → Line) → ((n : ℕ) → f n ≡ L.Bad) → on_number o f ≡ L.Bad
+on_bad : (o : Option ℕ) (f : ℕ → Option Line) → ((n : ℕ) → f n ≡ none) → on_number o f ≡ none
 on_bad none f h = refl
 on_bad (some n) f h = h n
 
--- two tests of the same thing answer the same
-says_same : (r q : Bool) (P : Type 0) → Says r P → Says q P → r ≡ q
-says_same true true P h k = refl
-says_same true false P h k = absurd (k.no refl (h.yes refl))
-says_same false true P h k = absurd (h.no refl (k.yes refl))
-says_same false false P h k = refl
-
 -- numbers beyond the limits
-fine_not : (n m l cap : ℕ) → (Limits (sized n m l cap) → ⊥) → cond (is_within (sized n m l cap)) (L.Heap n m l cap) L.Bad ≡ L.Bad
+fine_not : (n m l cap : ℕ) → (Limits (sized n m l cap) → ⊥) → with_four n m l cap ≡ none
 fine_not n m l cap d = go (is_within (sized n m l cap)) refl
   where
-    go : (q : Bool) → is_within (sized n m l cap) ≡ q → cond q (L.Heap n m l cap) L.Bad ≡ L.Bad
+    go : (q : Bool) → is_within (sized n m l cap) ≡ q → cond q (some (L.Heap (sized n m l cap))) none ≡ none
     go true e = absurd (d ((within-says (sized n m l cap)).yes e))
     go false e = refl
 
-heap_last : (n m l cap N M E C : ℕ) (r : Bool) → n ≡ N → m ≡ M → l ≡ E → cap ≡ C → Says r (Limits (sized n m l cap)) → cond (is_within (sized N M E C)) (L.Heap N M E C) L.Bad ≡ cond r (L.Heap n m l cap) L.Bad
-heap_last n m l cap N M E C r en em el ec s =
-    rw (← en, ← em, ← el, ← ec, says_same (is_within (sized n m l cap)) r (Limits (sized n m l cap)) (within-says (sized n m l cap)) s)
-
-not_three : (n m l : ℕ) (o : Option ℕ) → ((c : ℕ) → Limits (sized n m l c) → ⊥) → with_three n m l o ≡ L.Bad
+not_three : (n m l : ℕ) (o : Option ℕ) → ((c : ℕ) → Limits (sized n m l c) → ⊥) → with_three n m l o ≡ none
 not_three n m l o d = on_bad o (λ c. with_four n m l c) (λ c. fine_not n m l c (d c))
 
-not-two : (n m : ℕ) (o₃ o : Option ℕ) → ((l c : ℕ) → Limits (sized n m l c) → ⊥) → with_two n m o₃ o ≡ L.Bad
-not-two n m o₃ o d = on_bad o₃ (λ l. with_three n m l o) (λ l. not_three n m l o (d l))
+not_two : (n m : ℕ) (o₃ o : Option ℕ) → ((l c : ℕ) → Limits (sized n m l c) → ⊥) → with_two n m o₃ o ≡ none
+not_two n m o₃ o d = on_bad o₃ (λ l. with_three n m l o) (λ l. not_three n m l o (d l))
 
-not-one : (n : ℕ) (o₂ o₃ o : Option ℕ) → ((m l c : ℕ) → Limits (sized n m l c) → ⊥) → with_one n o₂ o₃ o ≡ L.Bad
-not-one n o₂ o₃ o d = on_bad o₂ (λ m. with_two n m o₃ o) (λ m. not-two n m o₃ o (d m))
+not_one : (n : ℕ) (o₂ o₃ o : Option ℕ) → ((m l c : ℕ) → Limits (sized n m l c) → ⊥) → with_one n o₂ o₃ o ≡ none
+not_one n o₂ o₃ o d = on_bad o₂ (λ m. with_two n m o₃ o) (λ m. not_two n m o₃ o (d m))
 
-four-capped : (o₁ o₂ o₃ o₄ : Option ℕ) → on_number o₁ (λ n. with_one n o₂ o₃ o₄) ≡ with_four (capped o₁) (capped o₂) (capped o₃) (capped o₄)
-four-capped o₁ o₂ o₃ o₄ =
-    let N = capped o₁ in
-    let M = capped o₂ in
-    let E = capped o₃ in
-    on-capped o₁ (λ n. with_one n o₂ o₃ o₄) (λ n h. not-one n o₂ o₃ o₄ (λ m l c z. let w = z.n_most in omega arith))
-    ∙ on-capped o₂ (λ m. with_two N m o₃ o₄) (λ m h. not-two N m o₃ o₄ (λ l c z. let w = z.m_most in omega arith))
-    ∙ on-capped o₃ (λ l. with_three N M l o₄) (λ l h. not_three N M l o₄ (λ c z. let w = z.l_most in omega arith))
-    ∙ on-capped o₄ (λ c. with_four N M E c) (λ c h. fine_not N M E c (λ z. let w = z.cap_most in omega arith))
+under : (o : Option ℕ) (f g : ℕ → Option Line) → ((n : ℕ) → f n ≡ g n) → on_number o f ≡ on_number o g
+under none f g h = refl
+under (some n) f g h = h n
 
-pub heap-says : (fs : List (List ℕ)) (n m l cap : ℕ) (r : Bool) → n ≡ capped (number_of (get_or fs 1 [])) → m ≡ capped (number_of (get_or fs 2 [])) → l ≡ capped (number_of (get_or fs 3 [])) → cap ≡ capped (number_of (get_or fs 4 [])) → Says r (Limits (sized n m l cap)) → heap_line fs ≡ cond r (L.Heap n m l cap) L.Bad
+-- the same from each number on, as far as it counts
+abbrev pub capped_three : ℕ → ℕ → ℕ → Option ℕ → Option Line
+capped_three n m l o = on_number (capped o) (λ c. with_four n m l c)
+
+abbrev pub capped_two : ℕ → ℕ → Option ℕ → Option ℕ → Option Line
+capped_two n m o₃ o = on_number (capped o₃) (λ l. capped_three n m l o)
+
+abbrev pub capped_one : ℕ → Option ℕ → Option ℕ → Option ℕ → Option Line
+capped_one n o₂ o₃ o = on_number (capped o₂) (λ m. capped_two n m o₃ o)
+
+three : (n m l : ℕ) (o : Option ℕ) → with_three n m l o ≡ capped_three n m l o
+three n m l o = on_capped o (λ c. with_four n m l c) (λ c h. fine_not n m l c (λ z. let w = z.cap_most in omega arith))
+
+two : (n m : ℕ) (o₃ o : Option ℕ) → with_two n m o₃ o ≡ capped_two n m o₃ o
+two n m o₃ o =
+    on_capped o₃ (λ l. with_three n m l o) (λ l h. not_three n m l o (λ c z. let w = z.l_most in omega arith))
+    ∙ under (capped o₃) (λ l. with_three n m l o) (λ l. capped_three n m l o) (λ l. three n m l o)
+
+one : (n : ℕ) (o₂ o₃ o : Option ℕ) → with_one n o₂ o₃ o ≡ capped_one n o₂ o₃ o
+one n o₂ o₃ o =
+    on_capped o₂ (λ m. with_two n m o₃ o) (λ m h. not_two n m o₃ o (λ l c z. let w = z.m_most in omega arith))
+    ∙ under (capped o₂) (λ m. with_two n m o₃ o) (λ m. capped_two n m o₃ o) (λ m. two n m o₃ o)
+
+-- line 1's numbers, each as far as it counts
+pub heap_capped : (fs : List (List ℕ)) → heap_line fs ≡ on_number (capped (number_of (get_or fs 1 []))) (λ n. capped_one n (number_of (get_or fs 2 [])) (number_of (get_or fs 3 [])) (number_of (get_or fs 4 [])))
 unfolding heap_line
-heap-says fs n m l cap r en em el ec s =
+heap_capped fs =
     let o₁ = number_of (get_or fs 1 []) in
     let o₂ = number_of (get_or fs 2 []) in
     let o₃ = number_of (get_or fs 3 []) in
-    let o₄ = number_of (get_or fs 4 []) in
-    four-capped o₁ o₂ o₃ o₄ ∙ heap_last n m l cap (capped o₁) (capped o₂) (capped o₃) (capped o₄) r en em el ec s
+    let o = number_of (get_or fs 4 []) in
+    on_capped o₁ (λ n. with_one n o₂ o₃ o) (λ n h. not_one n o₂ o₃ o (λ m l c z. let w = z.n_most in omega arith))
+    ∙ under (capped o₁) (λ n. with_one n o₂ o₃ o) (λ n. capped_one n o₂ o₃ o) (λ n. one n o₂ o₃ o)
+
+-- the test of the limits is the code's
+pub within_is : (s : Sizes) (r : Bool) → Says r (Limits s) → is_within s ≡ r
+within_is s r h = go (is_within s) r (within-says s) h
+  where
+    go : (q r : Bool) → Says q (Limits s) → Says r (Limits s) → q ≡ r
+    go true true k h = refl
+    go true false k h = absurd (h.no refl (k.yes refl))
+    go false true k h = absurd (k.no refl (h.yes refl))
+    go false false k h = refl
+
+pub ruleset heap_laws = (heap_capped, within_is)

@@ -22,37 +22,37 @@ use Rattle.script.specs.declared.Line.TheVariants as L
 -- ---- line 1
 
 -- a heap within the limits, or bad
-abbrev pub First : Line → Type 0
-First (L.Heap n m l cap) = Limits (sized n m l cap)
-First (L.Call op a b c) = ⊥
-First L.Batch = ⊥
-First L.Bad = Unit {0}
+abbrev pub First : Option Line → Type 0
+First none = Unit {0}
+First (some (L.Heap sizes)) = Limits sizes
+First (some (L.Call op a b c)) = ⊥
+First (some L.Batch) = ⊥
 
-first_if : (q : Bool) (x : Line) → First x → First (cond q x L.Bad)
+first_if : (q : Bool) (x : Option Line) → First x → First (cond q x none)
 first_if true x h = h
 first_if false x h = tt
 
-first_on : (o : Option ℕ) (f : ℕ → Line) → ((n : ℕ) → First (f n)) → First (on_number o f)
+first_on : (o : Option ℕ) (f : ℕ → Option Line) → ((n : ℕ) → First (f n)) → First (on_number o f)
 first_on none f h = tt
 first_on (some n) f h = h n
 
 -- a heap's line from its first numbers on
-abbrev pub with_four : ℕ → ℕ → ℕ → ℕ → Line
-with_four n m l c = cond (is_within (sized n m l c)) (L.Heap n m l c) L.Bad
+abbrev pub with_four : ℕ → ℕ → ℕ → ℕ → Option Line
+with_four n m l c = cond (is_within (sized n m l c)) (some (L.Heap (sized n m l c))) none
 
-abbrev pub with_three : ℕ → ℕ → ℕ → Option ℕ → Line
+abbrev pub with_three : ℕ → ℕ → ℕ → Option ℕ → Option Line
 with_three n m l o = on_number o (λ c. with_four n m l c)
 
-abbrev pub with_two : ℕ → ℕ → Option ℕ → Option ℕ → Line
+abbrev pub with_two : ℕ → ℕ → Option ℕ → Option ℕ → Option Line
 with_two n m o₃ o = on_number o₃ (λ l. with_three n m l o)
 
-abbrev pub with_one : ℕ → Option ℕ → Option ℕ → Option ℕ → Line
+abbrev pub with_one : ℕ → Option ℕ → Option ℕ → Option ℕ → Option Line
 with_one n o₂ o₃ o = on_number o₂ (λ m. with_two n m o₃ o)
 
 first-four : (n m l cap : ℕ) → First (with_four n m l cap)
 first-four n m l cap = go (is_within (sized n m l cap)) refl
   where
-    go : (q : Bool) → is_within (sized n m l cap) ≡ q → First (cond q (L.Heap n m l cap) L.Bad)
+    go : (q : Bool) → is_within (sized n m l cap) ≡ q → First (cond q (some (L.Heap (sized n m l cap))) none)
     go true e = (within-says (sized n m l cap)).yes e
     go false e = tt
 
@@ -82,13 +82,13 @@ first_says bs =
 -- ---- a line after the first
 
 -- a call of rules over m variables, the end of a batch, or bad
-abbrev pub Later : ℕ → Line → Type 0
-Later m (L.Heap n v l cap) = ⊥
-Later m (L.Call op a b c) = is_some (call_of m op a b c) ≡ true
-Later m L.Batch = Unit {0}
-Later m L.Bad = Unit {0}
+abbrev pub Later : ℕ → Option Line → Type 0
+Later m none = Unit {0}
+Later m (some (L.Heap sizes)) = ⊥
+Later m (some (L.Call op a b c)) = is_some (call_of m op a b c) ≡ true
+Later m (some L.Batch) = Unit {0}
 
-later_if : (m : ℕ) (q : Bool) (x y : Line) → Later m x → Later m y → Later m (cond q x y)
+later_if : (m : ℕ) (q : Bool) (x y : Option Line) → Later m x → Later m y → Later m (cond q x y)
 later_if m true x y h k = h
 later_if m false x y h k = k
 
@@ -106,12 +106,12 @@ later_with m op (some a) (some b) (some c) = go (call_of m op a b c) refl
 later_operation : (m k : ℕ) (fs : List (List ℕ)) → Later m (operation_line m k fs)
 unfolding operation_line
 later_operation m k fs =
-    later_if m (eqb (length fs) (arity k + 1)) (cond (eqb k 11) L.Batch (call_line m k fs)) L.Bad
-    (later_if m (eqb k 11) L.Batch (call_line m k fs) tt (later_with m (pos k) (word_of k 1 fs) (word_of k 2 fs) (word_of k 3 fs))) tt
+    later_if m (eqb (length fs) (arity k + 1)) (cond (eqb k 11) (some L.Batch) (call_line m k fs)) none
+    (later_if m (eqb k 11) (some L.Batch) (call_line m k fs) tt (later_with m (pos k) (word_of k 1 fs) (word_of k 2 fs) (word_of k 3 fs))) tt
 
 pub later_says : (m : ℕ) (bs : List ℕ) → Later m (line_of m bs)
 unfolding line_of
 later_says m bs =
     let fs = fields_of bs in
     let k = operation_of (get_or fs 0 []) in
-    later_if m (leb (length bs) 80) (operation_line m k fs) L.Bad (later_operation m k fs) tt
+    later_if m (leb (length bs) 80) (operation_line m k fs) none (later_operation m k fs) tt

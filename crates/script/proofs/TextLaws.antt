@@ -1,31 +1,22 @@
 -- Laws of bytes compared, of a line's fields and of a text's lines: what one more byte does. Assumes nothing.
 use Prim.Native.Nat.{ℕ, zero, suc, ◌+◌, ◌-◌, ◌≤◌, ◌<◌}
 use mathlib.Core.Path.{◌≡◌, refl, ap, ◌∙◌}
-use mathlib.Core.Bool.{Bool, true, false, cond, ◌&&◌}
+use mathlib.Core.Bool.{Bool, true, false, cond, not}
 use mathlib.Core.List.{List, [], ◌∷◌}
-use native.Mathlib.Numerals.{add-one}
 use native.Mathlib.Omega.{arith}
-use lib.Dec.{eqb}
+use lib.Dec.{eqb, ltb}
+use denote.Ref.{Bor}
+use Rattle.std.specs.Prelude.{unwrap_or, option_map, slice_get}
+use Rattle.std.specs.Prelude as C
 use native.Mathlib.Nat.{add-sub_cancel_left}
 use lib.ListN.{length, get_or, take, drop, length-drop, drop_of_length-le}
-use lib.Seq.{drop-cons, drop-drop, take_all}
-use borrow.Author.Tests.{eq-eqb, ne_eqb}
+use lib.Seq.{drop-cons, drop-drop}
+use borrow.Author.Tests.{ltb-false}
+use Rattle.std.specs.List.{position_or_len, slice_split}
+use Rattle.std.specs.Cmp.Lexicographic.{pointwise}
 use Rattle.script.specs.Text.{same_bytes, up_to, more_fields, fields_of, lines_from, lines_of, line_at, next_line}
-use Rattle.script.specs.Place.{Starts}
 
 -- ---- up to a byte
-
-pub up_to_here : (b : ℕ) (s : List ℕ) (i : ℕ) → i < length s → get_or s i 0 ≡ b → up_to b (drop i s) ≡ []
-unfolding up_to
-up_to_here b s i h e = rw (drop-cons s i 0 h, eq-eqb (get_or s i 0) b e)
-
-pub up_to_on : (b : ℕ) (s : List ℕ) (i : ℕ) → i < length s → (get_or s i 0 ≡ b → ⊥) → up_to b (drop i s) ≡ get_or s i 0 ∷ up_to b (drop (i + 1) s)
-unfolding up_to
-up_to_on b s i h e = rw (drop-cons s i 0 h, ne_eqb (get_or s i 0) b e, add-one)
-
-pub up_to_end : (b : ℕ) (s : List ℕ) (i : ℕ) → length s ≤ i → up_to b (drop i s) ≡ []
-unfolding up_to
-up_to_end b s i h = rw (drop_of_length-le s h)
 
 pub up_to_most : (b : ℕ) (s : List ℕ) → length (up_to b s) ≤ length s
 unfolding up_to
@@ -45,74 +36,65 @@ up_to_take b (x ∷ s) = go (eqb x b) (up_to_take b s)
     go true e = refl
     go false e = ap (λ (l : List ℕ). x ∷ l) e
 
+-- where the first b stands, as `position` says it
+pub up_to_position : (b : ℕ) (s : List ℕ) → length (up_to b s) ≡ position_or_len (λ x. eqb x b) s
+unfolding up_to
+up_to_position b [] = refl
+up_to_position b (x ∷ s) = go (eqb x b) (up_to_position b s)
+  where
+    go : (q : Bool) → length (up_to b s) ≡ position_or_len (λ y. eqb y b) s → length (cond q [] (x ∷ up_to b s)) ≡ cond (not q) (1 + position_or_len (λ y. eqb y b) s) 0
+    go true e = refl
+    go false e = omega arith
+
 -- ---- the same bytes
 
-pub same-lengths : (a b : List ℕ) → (length a ≡ length b → ⊥) → same_bytes a b ≡ false
+-- as `==` says it
+pub same_pointwise : (a b : List ℕ) → same_bytes a b ≡ pointwise eqb a b
 unfolding same_bytes
-same-lengths [] [] h = absurd (h refl)
-same-lengths [] (y ∷ b) h = refl
-same-lengths (x ∷ a) [] h = refl
-same-lengths (x ∷ a) (y ∷ b) h = rw (same-lengths a b (λ e. h (ap suc e))) (both (eqb x y))
-  where
-    both : (q : Bool) → (q && false) ≡ false
-    both true = refl
-    both false = refl
-
-pub same_differ : (a b : List ℕ) (i : ℕ) → i < length a → i < length b → (get_or a i 0 ≡ get_or b i 0 → ⊥) → same_bytes (drop i a) (drop i b) ≡ false
-unfolding same_bytes
-same_differ a b i h k d = rw (drop-cons a i 0 h, drop-cons b i 0 k, ne_eqb (get_or a i 0) (get_or b i 0) d)
-
-pub same_step : (a b : List ℕ) (i : ℕ) → i < length a → i < length b → get_or a i 0 ≡ get_or b i 0 → same_bytes (drop i a) (drop i b) ≡ same_bytes (drop (i + 1) a) (drop (i + 1) b)
-unfolding same_bytes
-same_step a b i h k e = rw (drop-cons a i 0 h, drop-cons b i 0 k, eq-eqb (get_or a i 0) (get_or b i 0) e, add-one)
-
-pub same_end : (a b : List ℕ) (i : ℕ) → length a ≤ i → length b ≤ i → same_bytes (drop i a) (drop i b) ≡ true
-unfolding same_bytes
-same_end a b i h k = rw (drop_of_length-le a h, drop_of_length-le b k)
+same_pointwise [] [] = refl
+same_pointwise [] (y ∷ b) = refl
+same_pointwise (x ∷ a) [] = refl
+same_pointwise (x ∷ a) (y ∷ b) = rw (same_pointwise a b)
 
 -- ---- fields
 
-pub tab_here : (s : List ℕ) (i : ℕ) → i < length s → get_or s i 0 ≡ 9 → more_fields (drop i s) ≡ up_to 9 (drop (i + 1) s) ∷ more_fields (drop (i + 1) s)
-unfolding more_fields
-tab_here s i h e = rw (drop-cons s i 0 h, eq-eqb (get_or s i 0) 9 e, add-one)
+-- the fields, as `split` says them
+pub split_fields : (s : List ℕ) → slice_split (λ b. eqb b 9) s ≡ fields_of s
+unfolding up_to more_fields
+split_fields [] = refl
+split_fields (x ∷ s) = rw (split_fields s) (go (eqb x 9))
+  where
+    go : (q : Bool) → cond q ([] ∷ fields_of s) ((x ∷ up_to 9 s) ∷ more_fields s) ≡ cond q [] (x ∷ up_to 9 s) ∷ cond q (fields_of s) (more_fields s)
+    go true = refl
+    go false = refl
 
-pub tab_on : (s : List ℕ) (i : ℕ) → i < length s → (get_or s i 0 ≡ 9 → ⊥) → more_fields (drop i s) ≡ more_fields (drop (i + 1) s)
-unfolding more_fields
-tab_on s i h e = rw (drop-cons s i 0 h, ne_eqb (get_or s i 0) 9 e, add-one)
+-- field k, or none
+pub field_or_none : (d : Bor (List ℕ)) (o : C.Option (Bor (List ℕ))) (s : List ℕ) (k : ℕ) (r : Bor (List ℕ)) → r ≡ unwrap_or o d → option_map (λ x. x.now) o ≡ slice_get (slice_split (λ b. eqb b 9) s) k → d.now ≡ [] → r.now ≡ get_or (fields_of s) k []
+field_or_none d o s k r e h z = rw e (go o (slice_split (λ b. eqb b 9) s) k h ∙ ap (λ (l : List (List ℕ)). get_or l k []) (split_fields s))
+  where
+    go : (o : C.Option (Bor (List ℕ))) (xs : List (List ℕ)) (k : ℕ) → option_map (λ x. x.now) o ≡ slice_get xs k → (unwrap_or o d).now ≡ get_or xs k []
+    go C.None [] k h = z
+    go (C.Some x) [] k h = let q : ◌≡◌ {A = ℕ} 0 1 = cc in absurd (omega arith)
+    go C.None (y ∷ xs) zero h = let q : ◌≡◌ {A = ℕ} 0 1 = cc in absurd (omega arith)
+    go (C.Some x) (y ∷ xs) zero h = cc
+    go o (y ∷ xs) (suc k) h = go o xs k h
 
-pub tab_end : (s : List ℕ) (i : ℕ) → length s ≤ i → more_fields (drop i s) ≡ []
-unfolding more_fields
-tab_end s i h = rw (drop_of_length-le s h)
+-- the first b, or the end where there is none
+pub end_found : (b : ℕ) (s : List ℕ) (o : C.Option ℕ) (n r : ℕ) → r ≡ unwrap_or o n → o ≡ cond (ltb (position_or_len (λ x. eqb x b) s) (length s)) (C.Some (position_or_len (λ x. eqb x b) s)) C.None → n ≡ length s → r ≡ length (up_to b s)
+end_found b s o n r e h l = rw (e, h, l, ← up_to_position b s) (go (ltb (length (up_to b s)) (length s)) refl)
+  where
+    go : (q : Bool) → ltb (length (up_to b s)) (length s) ≡ q → unwrap_or (cond q (C.Some (length (up_to b s))) C.None) (length s) ≡ length (up_to b s)
+    go true e = refl
+    go false e = let m = up_to_most b s in let w = ltb-false _ _ e in omega arith
 
--- field number left from here is number left - 1 after a tab
-pub field-here : (s : List ℕ) (i left : ℕ) → i < length s → get_or s i 0 ≡ 9 → (left ≡ 0 → ⊥) → get_or (fields_of (drop (i + 1) s)) (left - 1) [] ≡ get_or (fields_of (drop i s)) left []
-field-here s i zero h e d = absurd (d refl)
-field-here s i (suc left) h e d = let q : suc left - 1 ≡ left = omega arith in rw (q, tab_here s i h e)
-
-pub field-on : (s : List ℕ) (i left : ℕ) → i < length s → (get_or s i 0 ≡ 9 → ⊥) → (left ≡ 0 → ⊥) → get_or (fields_of (drop (i + 1) s)) left [] ≡ get_or (fields_of (drop i s)) left []
-field-on s i zero h e d = absurd (d refl)
-field-on s i (suc left) h e d = rw (tab_on s i h e)
-
-pub field_end : (s : List ℕ) (i left : ℕ) → length s ≤ i → up_to 9 (drop i s) ≡ get_or (fields_of (drop i s)) left []
-field_end s i zero h = refl
-field_end s i (suc left) h = rw (tab_end s i h, up_to_end 9 s i h)
-
-pub field-first : (s : List ℕ) (i left : ℕ) → left ≡ 0 → up_to 9 (drop i s) ≡ get_or (fields_of (drop i s)) left []
-field-first s i left e = rw e
+-- ---- the part up to a byte
 
 -- the part from a place up to the next b
 pub part-to : (b : ℕ) (s : List ℕ) (a : ℕ) → take (a + length (up_to b (drop a s)) - a) (drop a s) ≡ up_to b (drop a s)
 part-to b s a = rw (add-sub_cancel_left a (length (up_to b (drop a s)))) (up_to_take b (drop a s))
 
-pub field-part : (s : List ℕ) (k a : ℕ) → Starts s k a → take (a + length (up_to 9 (drop a s)) - a) (drop a s) ≡ get_or (fields_of s) k []
-field-part s k a h = part-to 9 s a ∙ h.field
-
 pub end-inside : (b : ℕ) (s : List ℕ) (a : ℕ) → a ≤ length s → a + length (up_to b (drop a s)) ≤ length s
 end-inside b s a h = let e = up_to_most b (drop a s) in let d = length-drop a s in omega arith
-
--- all after the first byte
-pub rest_part : (s : List ℕ) → take (length s - 1) (drop 1 s) ≡ drop 1 s
-rest_part s = take_all (length s - 1) (drop 1 s) (omega (arith, length-drop 1 s))
 
 -- ---- the lines of a text
 

@@ -1,4 +1,4 @@
--- What a line says. Assumes nothing.
+-- What a line says; a bad line says nothing: none. Assumes nothing.
 use Rattle.std.specs.Prelude.{ℕ, suc, ◌+◌, cond, ◌&&◌, List, [], ◌∷◌, eqb, leb, length, get_or, ℤ, pos}
 use Rattle.std.proofs.Math.Option.{Option, none, some}
 use Rattle.rules.specs.Head.{sized}
@@ -9,8 +9,9 @@ use Rattle.script.specs.Number.{number_of, plain_of, figure_of}
 use Rattle.rules.specs.declared.Call.{Call}
 use Rattle.script.specs.declared.Line.{Line}
 use Rattle.script.specs.declared.Line.TheVariants as L
-use Rattle.script.specs.declared.Word.{Word}
-use Rattle.script.specs.declared.Word.TheVariants.{Number, Wrong}
+use Rattle.script.specs.declared.Operation.{Operation}
+use Rattle.script.specs.declared.Operation.TheVariants as O
+use Rattle.std.specs.Prelude as code
 
 -- ---- operation words
 
@@ -38,58 +39,72 @@ word_of k i fs = cond (leb i (arity k)) (cond (eqb k 5 && eqb i 3) (figure_of (g
 -- ---- a line after the first
 
 -- a call that would earn refusal 2 is bad
-abbrev pub call_if : Option Call → Line → Line
-call_if none l = L.Bad
-call_if (some c) l = l
+abbrev pub call_if : Option Call → Line → Option Line
+call_if none l = none
+call_if (some c) l = some l
 
 -- the four words of a call
-unfoldable pub call_with : ℕ → ℤ → Option ℤ → Option ℤ → Option ℤ → Line
+unfoldable pub call_with : ℕ → ℤ → Option ℤ → Option ℤ → Option ℤ → Option Line
 call_with m op (some a) (some b) (some c) = call_if (call_of m op a b c) (L.Call op a b c)
-call_with m op none b c = L.Bad
-call_with m op (some a) none c = L.Bad
-call_with m op (some a) (some b) none = L.Bad
+call_with m op none b c = none
+call_with m op (some a) none c = none
+call_with m op (some a) (some b) none = none
 
 -- the call of operation k, of the fields of its line
-abbrev pub call_line : ℕ → ℕ → List (List ℕ) → Line
+abbrev pub call_line : ℕ → ℕ → List (List ℕ) → Option Line
 call_line m k fs = call_with m (pos k) (word_of k 1 fs) (word_of k 2 fs) (word_of k 3 fs)
 
 -- as many words follow as the operation has
-unfoldable pub operation_line : ℕ → ℕ → List (List ℕ) → Line
-operation_line m k fs = cond (eqb (length fs) (arity k + 1)) (cond (eqb k 11) L.Batch (call_line m k fs)) L.Bad
+unfoldable pub operation_line : ℕ → ℕ → List (List ℕ) → Option Line
+operation_line m k fs = cond (eqb (length fs) (arity k + 1)) (cond (eqb k 11) (some L.Batch) (call_line m k fs)) none
 
 -- a line holds at most 80 bytes, and its first field is the operation word
-unfoldable pub line_of : ℕ → List ℕ → Line
-line_of m bs = cond (leb (length bs) 80) (operation_line m (operation_of (get_or (fields_of bs) 0 [])) (fields_of bs)) L.Bad
+unfoldable pub line_of : ℕ → List ℕ → Option Line
+line_of m bs = cond (leb (length bs) 80) (operation_line m (operation_of (get_or (fields_of bs) 0 [])) (fields_of bs)) none
 
 -- ---- line 1
 
 -- with a number, where there is one
-abbrev pub on_number : Option ℕ → (ℕ → Line) → Line
-on_number none f = L.Bad
+abbrev pub on_number : Option ℕ → (ℕ → Option Line) → Option Line
+on_number none f = none
 on_number (some n) f = f n
 
 -- heap, n, m, L, cap; numbers that would earn refusal 1 are bad
-unfoldable pub heap_line : List (List ℕ) → Line
+unfoldable pub heap_line : List (List ℕ) → Option Line
 heap_line fs =
     on_number (number_of (get_or fs 1 []))
     (λ n.
     on_number (number_of (get_or fs 2 []))
     (λ m.
-    on_number (number_of (get_or fs 3 [])) (λ l. on_number (number_of (get_or fs 4 [])) (λ cap. cond (is_within (sized n m l cap)) (L.Heap n m l cap) L.Bad))))
+    on_number (number_of (get_or fs 3 [])) (λ l. on_number (number_of (get_or fs 4 [])) (λ cap. cond (is_within (sized n m l cap)) (some (L.Heap (sized n m l cap))) none))))
 
 -- line 1: heap, n, m, L, cap
-unfoldable pub head_line_of : List ℕ → Line
+unfoldable pub head_line_of : List ℕ → Option Line
 head_line_of bs =
-    cond (leb (length bs) 80 && (eqb (length (fields_of bs)) 5 && same_bytes (get_or (fields_of bs) 0 []) (bytes "heap"))) (heap_line (fields_of bs)) L.Bad
+    cond (leb (length bs) 80 && (eqb (length (fields_of bs)) 5 && same_bytes (get_or (fields_of bs) 0 []) (bytes "heap"))) (heap_line (fields_of bs)) none
 
 -- ---- what the functions hand on
 
--- a word of a call, or none
-abbrev pub as_word : Option ℤ → Word
-as_word none = Wrong
-as_word (some x) = Number x
+-- a number, as far as it counts: none above 2,147,483,648
+abbrev pub capped : Option ℕ → Option ℕ
+capped none = none
+capped (some n) = cond (leb n 2147483648) (some n) none
 
--- a number up to 2,147,483,648; one above for any larger number, and for none
-abbrev pub capped : Option ℕ → ℕ
-capped none = 2147483649
-capped (some n) = cond (leb n 2147483648) n 2147483649
+-- the number of an operation, 11 for batch
+abbrev pub number_of_operation : Operation → ℕ
+number_of_operation O.New = 1
+number_of_operation O.Copy = 2
+number_of_operation O.Clear = 3
+number_of_operation O.Link = 4
+number_of_operation O.Put = 5
+number_of_operation O.Blank = 6
+number_of_operation O.Follow = 7
+number_of_operation O.Read = 8
+number_of_operation O.Same = 9
+number_of_operation O.Settle = 10
+number_of_operation O.Batch = 11
+
+-- the number of the operation that was named; 0 for none
+abbrev pub number_named : code.Option Operation → ℕ
+number_named code.None = 0
+number_named (code.Some o) = number_of_operation o

@@ -1,13 +1,14 @@
 -- Lines worked by computation. Assumes nothing.
-use Rattle.std.specs.Prelude.{ℕ, ◌≡◌, refl, List, [], ◌∷◌, pos, negsuc}
-use Rattle.std.proofs.Math.Option.{none, some}
+use Rattle.std.specs.Prelude.{ℕ, ◌≡◌, refl, List, [], ◌∷◌, ℤ, pos, negsuc}
+use Rattle.std.proofs.Math.Option.{Option, none, some}
+use Rattle.rules.specs.Head.{sized}
 use Rattle.rules.specs.Call.{call_of}
 use Rattle.rules.specs.Refusals.{is_within}
 use Rattle.script.specs.Text.{bytes, same_bytes, up_to, more_fields, fields_of, lines_from, lines_of, next_line}
 use Rattle.script.specs.Number.{digits_from, number_of, figure_of}
 use Rattle.script.specs.Line.{word_in, arity, word_of, call_with, operation_line, line_of, heap_line, head_line_of}
 use Rattle.script.specs.declared.Line.{Line}
-use Rattle.script.specs.declared.Line.TheVariants.{Heap, Call, Batch, Bad}
+use Rattle.script.specs.declared.Line.TheVariants as L
 
 -- ---- lines and fields
 
@@ -82,9 +83,23 @@ lone_minus : figure_of (bytes "-") ≡ none
 unfolding figure_of number_of digits_from
 lone_minus = refl
 
+-- ---- what a line says, or that it is bad
+
+abbrev Heap : ℕ → ℕ → ℕ → ℕ → Option Line
+Heap n m l cap = some (L.Heap (sized n m l cap))
+
+abbrev Call : ℤ → ℤ → ℤ → ℤ → Option Line
+Call op a b c = some (L.Call op a b c)
+
+abbrev Batch : Option Line
+Batch = some L.Batch
+
+abbrev Bad : Option Line
+Bad = none
+
 -- ---- lines after the first, over 4 variables
 
-says : List ℕ → Line
+says : List ℕ → Option Line
 says bs = line_of 4 bs
 
 put : says (bytes "put\t0\t1\t-2147483648") ≡ Call (pos 5) (pos 0) (pos 1) (negsuc 2147483647)
@@ -110,7 +125,7 @@ bad =
     ∷ bytes "copy\t0\t\t1" ∷ bytes "copy\t0" ∷ bytes "copy\t0\t1\t2" ∷ bytes "new\t18446744073709551616" ∷ bytes "new\t123456789012345678901234567890" ∷ bytes "new 0" ∷ bytes "new\t0\r" ∷ bytes "New\t0" ∷ bytes "newt\t0"
     ∷ bytes "" ∷ bytes "\t" ∷ bytes "heap\t4\t2\t8\t3" ∷ bytes "put\t0\t0\t-0" ∷ bytes "put\t0\t0\t" ∷ bytes "0" ∷ []
 
-each : (List ℕ → Line) → List (List ℕ) → List Line
+each : (List ℕ → Option Line) → List (List ℕ) → List (Option Line)
 each f [] = []
 each f (x ∷ xs) = f x ∷ each f xs
 

@@ -1,15 +1,14 @@
 // The reading of a tally script: its lines, the fields of a line, numbers, and what a line says.
 #![tactic(auto)]
 
-ghost use Rattle.std.specs.Prelude.{◌≡◌, [], ◌+◌, ◌≤◌, length, get_or, drop, pos};
-ghost use Rattle.rules.specs.Call.{call_of};
-ghost use Rattle.words.specs.Words.{is_some};
-ghost use Rattle.script.specs.Text.{same_bytes, up_to, fields_of, line_at, line_end, next_line};
+ghost use Rattle.std.specs.Prelude.{◌≡◌, [], ◌+◌, ◌≤◌, length, get_or};
+ghost use Rattle.rules.specs.Field.{option_of};
+ghost use Rattle.script.specs.Text.{fields_of, line_at, line_end, next_line};
 ghost use Rattle.script.specs.Number.{digits_from, number_of, plain_of, figure_of};
-ghost use Rattle.script.specs.Line.{operations, word_in, operation_of, arity, word_of, call_line, line_of, heap_line, head_line_of, as_word, capped};
-ghost use Rattle.script.specs.Place.{Starts};
+ghost use Rattle.script.specs.Line.{operation_of, arity, word_of, call_line, line_of, heap_line, head_line_of, capped, number_named, number_of_operation};
 
 use rules::Sizes;
+use words::call_of;
 
 // A line holds at most so many bytes besides its LF.
 const LONGEST: usize = 80;
@@ -17,41 +16,15 @@ const LONGEST: usize = 80;
 // The least figure with its minus off: no line has a use for a number above it.
 const MOST: usize = 2147483648;
 
-// What stands for any number above MOST, and for what is no number.
-const NONE: usize = 2147483649;
-
 // The byte 0, which only the number 0 begins with.
-const NOUGHT: u8 = 48;
-
-// A word of a call, or what is none.
-#[derive(Clone, Copy)]
-pub enum Word {
-    Number(i32),
-    Wrong,
-}
+const NOUGHT: u8 = b'0';
 
 // What a line says.
 #[derive(Clone, Copy)]
 pub enum Line {
-    Heap(usize, usize, usize, usize),
+    Heap(Sizes),
     Call(i32, i32, i32, i32),
     Batch,
-    Bad,
-}
-
-// Where the first b stands from a place on; the end where there is none.
-fn end_at(s: &[u8], at: usize, b: u8) -> usize
-    requires { at ≤ length s.now }
-    ensures { result ≡ at + length (up_to b (drop at s.now)) }
-{
-    let mut i = at;
-    while i < s.len() {
-        if s[i] == b {
-            return i;
-        }
-        i += 1;
-    }
-    i
 }
 
 // Where the line that starts at a place ends.
@@ -59,7 +32,8 @@ fn line_end(text: &[u8], at: usize) -> usize
     requires { at ≤ length text.now }
     ensures { result ≡ line_end text.now at }
 {
-    end_at(text, at, 10)
+    let rest = &text[at..];
+    at + rest.iter().position(|b| *b == b'\n').unwrap_or(rest.len())
 }
 
 // The line that starts at a place, as a part of the text.
@@ -67,8 +41,7 @@ pub fn line_at(text: &[u8], at: usize) -> &[u8]
     requires { at ≤ length text.now }
     ensures { result.now ≡ line_at text.now at }
 {
-    let e = line_end(text, at);
-    &text[at..e]
+    &text[at..line_end(text, at)]
 }
 
 // Where the next line starts; past the end where there is none.
@@ -79,280 +52,186 @@ pub fn line_next(text: &[u8], at: usize) -> usize
     line_end(text, at) + 1
 }
 
-// Are the bytes the same?
-fn same(a: &[u8], b: &[u8]) -> bool
-    ensures { result ≡ same_bytes a.now b.now }
-{
-    if a.len() != b.len() {
-        return false;
-    }
-    let mut i = 0;
-    while i < a.len() {
-        if a[i] != b[i] {
-            return false;
-        }
-        i += 1;
-    }
-    true
-}
-
-// Where field k starts; the end where there is none.
-fn field_start(s: &[u8], k: usize) -> usize
-    ensures { Starts s.now k result }
-{
-    let mut more = k;
-    let mut i = 0;
-    while i < s.len() {
-        if more == 0 {
-            return i;
-        }
-        if s[i] == 9 {
-            more -= 1;
-        }
-        i += 1;
-    }
-    i
-}
-
 // Field k of a line; empty where there is none.
 fn field(s: &[u8], k: usize) -> &[u8]
     ensures { result.now ≡ get_or (fields_of s.now) k [] }
 {
-    let a = field_start(s, k);
-    let e = end_at(s, a, 9);
-    &s[a..e]
+    s.split(|b| *b == b'\t').nth(k).unwrap_or(&[])
 }
 
 // How many fields a line has.
 fn fields(s: &[u8]) -> usize
     ensures { result ≡ length (fields_of s.now) }
 {
-    let mut n: usize = 1;
-    let mut at = 0;
-    while at < s.len() {
-        if s[at] == 9 {
-            n += 1;
-        }
-        at += 1;
-    }
-    n
+    s.split(|b| *b == b'\t').count()
 }
 
 // The number that digits are, as far as it counts.
-fn digits(s: &[u8]) -> usize
-    ensures { result ≡ capped (digits_from 0 s.now) }
+// Stays: std's parse would take a plus sign, and fail above its type; here a number above any use counts as none.
+#[tactic(auto, using(crate::proofs::NumberLaws::digit_laws), unfolding(crate::specs::Number::digits_from))]
+fn digits(s: &[u8]) -> Option<usize>
+    ensures { option_of result ≡ capped (digits_from 0 s.now) }
 {
-    let mut n: usize = 0;
-    let mut i = 0;
-    while i < s.len() {
-        let b = s[i];
-        if b < 48 {
-            return NONE;
+    let mut n = 0;
+    for b in s {
+        if !b.is_ascii_digit() {
+            return None;
         }
-        if 57 < b {
-            return NONE;
-        }
-        n = n * 10 + (b as usize - 48);
+        n = n * 10 + usize::from(*b - b'0');
         if MOST < n {
-            return NONE;
+            return None;
         }
-        i += 1;
     }
-    n
+    Some(n)
 }
 
 // A number in decimal, as far as it counts.
-fn number(s: &[u8]) -> usize
-    ensures { result ≡ capped (number_of s.now) }
+#[tactic(auto, unfolding(crate::specs::Number::number_of))]
+fn number(s: &[u8]) -> Option<usize>
+    ensures { option_of result ≡ capped (number_of s.now) }
 {
-    if s.len() == 0 {
-        return NONE;
+    match s {
+        [] | [NOUGHT, _, ..] => None,
+        _ => digits(s),
     }
-    if s.len() == 1 {
-        return digits(s);
-    }
-    if s[0] == NOUGHT {
-        return NONE;
-    }
-    digits(s)
 }
 
 // A variable or a field, as a word of a call.
-fn plain(s: &[u8]) -> Word
-    ensures { result ≡ as_word (plain_of s.now) }
+fn plain(s: &[u8]) -> Option<i32>
+    ensures { option_of result ≡ plain_of s.now }
 {
-    let n = number(s);
-    if n < MOST {
-        Word::Number(n as i32)
-    } else {
-        Word::Wrong
-    }
+    i32::try_from(number(s)?).ok()
 }
 
 // A figure, as a word of a call.
-fn figure(s: &[u8]) -> Word
-    ensures { result ≡ as_word (figure_of s.now) }
+#[tactic(auto, using(crate::proofs::NumberLaws::figure_laws), unfolding(crate::specs::Number::figure_of))]
+fn figure(s: &[u8]) -> Option<i32>
+    ensures { option_of result ≡ figure_of s.now }
 {
-    if s.len() == 0 {
-        return Word::Wrong;
-    }
-    if s[0] != 45 {
+    let [b'-', rest @ ..] = s else {
         return plain(s);
+    };
+    match number(rest)? {
+        0 => None,
+        n => i32::try_from(-(n as i64)).ok(),
     }
-    let n = number(&s[1..]);
-    if n == 0 {
-        return Word::Wrong;
-    }
-    if MOST < n {
-        return Word::Wrong;
-    }
-    Word::Number(-1 - ((n - 1) as i32))
 }
 
-// The number of an operation word from blank on, 11 for batch, 0 for any other.
-fn later_operation(s: &[u8]) -> usize
-    ensures { result ≡ word_in 6 (drop 5 operations) s.now }
-{
-    if same(s, b"blank") {
-        return 6;
-    }
-    if same(s, b"follow") {
-        return 7;
-    }
-    if same(s, b"read") {
-        return 8;
-    }
-    if same(s, b"same") {
-        return 9;
-    }
-    if same(s, b"settle") {
-        return 10;
-    }
-    if same(s, b"batch") {
-        return 11;
-    }
-    0
+// The words that a line may begin with, by the numbers of their operations; batch comes after them.
+#[derive(Clone, Copy)]
+enum Operation {
+    New = 1,
+    Copy = 2,
+    Clear = 3,
+    Link = 4,
+    Put = 5,
+    Blank = 6,
+    Follow = 7,
+    Read = 8,
+    Same = 9,
+    Settle = 10,
+    Batch = 11,
 }
 
-// The number of an operation word, 11 for batch, 0 for any other.
-fn operation(s: &[u8]) -> usize
-    ensures { result ≡ operation_of s.now }
-{
-    if same(s, b"new") {
-        return 1;
+impl Operation {
+    // The operation of a word.
+    #[tactic(auto, using(crate::proofs::Names::name_laws))]
+    fn named(word: &[u8]) -> Option<Operation>
+        ensures { number_named result ≡ operation_of word.now }
+    {
+        match word {
+            b"new" => Some(Operation::New),
+            b"copy" => Some(Operation::Copy),
+            b"clear" => Some(Operation::Clear),
+            b"link" => Some(Operation::Link),
+            b"put" => Some(Operation::Put),
+            b"blank" => Some(Operation::Blank),
+            b"follow" => Some(Operation::Follow),
+            b"read" => Some(Operation::Read),
+            b"same" => Some(Operation::Same),
+            b"settle" => Some(Operation::Settle),
+            b"batch" => Some(Operation::Batch),
+            _ => None,
+        }
     }
-    if same(s, b"copy") {
-        return 2;
-    }
-    if same(s, b"clear") {
-        return 3;
-    }
-    if same(s, b"link") {
-        return 4;
-    }
-    if same(s, b"put") {
-        return 5;
-    }
-    later_operation(s)
-}
 
-// How many words each operation takes.
-const WORDS: [usize; 12] = [0, 1, 2, 1, 3, 3, 2, 3, 2, 2, 0, 0];
-
-fn words(op: usize) -> usize
-    ensures { result ≡ arity op }
-{
-    if op < 12 { WORDS[op] } else { 0 }
+    // How many words it takes.
+    #[tactic(auto, unfolding(crate::specs::Line::arity))]
+    fn words(self) -> usize
+        ensures { result ≡ arity (number_of_operation self) }
+    {
+        match self {
+            Operation::Settle | Operation::Batch => 0,
+            Operation::New | Operation::Clear => 1,
+            Operation::Copy | Operation::Blank | Operation::Read | Operation::Same => 2,
+            Operation::Link | Operation::Put | Operation::Follow => 3,
+        }
+    }
 }
 
 // Word i of an operation, from its line.
-fn word_at(line: &[u8], op: usize, i: usize) -> Word
-    ensures { result ≡ as_word (word_of op i (fields_of line.now)) }
+#[tactic(auto, unfolding(crate::specs::Line::word_of))]
+fn word_at(line: &[u8], operation: Operation, i: usize) -> Option<i32>
+    ensures { option_of result ≡ word_of (number_of_operation operation) i (fields_of line.now) }
 {
-    if words(op) < i {
-        return Word::Number(0);
+    if operation.words() < i {
+        return Some(0);
     }
-    if op != 5 {
-        return plain(field(line, i));
+    let word = field(line, i);
+    match operation {
+        Operation::Put if i == 3 => figure(word),
+        _ => plain(word),
     }
-    if i != 3 {
-        return plain(field(line, i));
-    }
-    figure(field(line, i))
-}
-
-// Are four words a call?
-fn is_call(m: usize, op: usize, a: i32, b: i32, c: i32) -> bool
-    requires { op ≤ 12 }
-    ensures { result ≡ is_some (call_of m (pos op) a b c) }
-{
-    words::is_call(words::call_of(op as i32, a, b, c, m))
 }
 
 // The call that a line of an operation says.
-fn call_line(line: &[u8], m: usize, op: usize) -> Line
-    requires { op ≤ 12 }
-    ensures { result ≡ call_line m op (fields_of line.now) }
+#[tactic(auto, unfolding(crate::specs::Line::call_with))]
+fn call_line(line: &[u8], m: usize, operation: Operation) -> Option<Line>
+    ensures { option_of result ≡ call_line m (number_of_operation operation) (fields_of line.now) }
 {
-    let Word::Number(a) = word_at(line, op, 1) else {
-        return Line::Bad;
-    };
-    let Word::Number(b) = word_at(line, op, 2) else {
-        return Line::Bad;
-    };
-    let Word::Number(c) = word_at(line, op, 3) else {
-        return Line::Bad;
-    };
-    if is_call(m, op, a, b, c) {
-        return Line::Call(op as i32, a, b, c);
-    }
-    Line::Bad
+    let op = operation as i32;
+    let a = word_at(line, operation, 1)?;
+    let b = word_at(line, operation, 2)?;
+    let c = word_at(line, operation, 3)?;
+    call_of(op, a, b, c, m)?;
+    Some(Line::Call(op, a, b, c))
 }
 
-// What a line after the first says, over m variables.
-pub fn later_line(line: &[u8], m: usize) -> Line
-    ensures { result ≡ line_of m line.now }
+// What a line after the first says, over m variables; none where it breaks the rules.
+#[tactic(auto, using(crate::proofs::LineLaws::no_operation), unfolding(crate::specs::Line::line_of, crate::specs::Line::operation_line))]
+pub fn later_line(line: &[u8], m: usize) -> Option<Line>
+    ensures { option_of result ≡ line_of m line.now }
 {
-    if LONGEST < line.len() {
-        return Line::Bad;
+    let operation = Operation::named(field(line, 0))?;
+    if LONGEST < line.len() || fields(line) - 1 != operation.words() {
+        return None;
     }
-    let op = operation(field(line, 0));
-    let more = fields(line) - 1;
-    if more != words(op) {
-        return Line::Bad;
+    match operation {
+        Operation::Batch => Some(Line::Batch),
+        _ => call_line(line, m, operation),
     }
-    if op == 11 {
-        return Line::Batch;
-    }
-    call_line(line, m, op)
 }
 
 // The heap that line 1 says, after its word.
-fn heap_line(line: &[u8]) -> Line
-    ensures { result ≡ heap_line (fields_of line.now) }
+#[tactic(auto, using(crate::proofs::LineLaws::heap_laws))]
+fn heap_line(line: &[u8]) -> Option<Line>
+    ensures { option_of result ≡ heap_line (fields_of line.now) }
 {
-    let n = number(field(line, 1));
-    let m = number(field(line, 2));
-    let l = number(field(line, 3));
-    let cap = number(field(line, 4));
-    if Sizes::plain(n, m, l, cap).within() {
-        return Line::Heap(n, m, l, cap);
-    }
-    Line::Bad
+    let n = number(field(line, 1))?;
+    let m = number(field(line, 2))?;
+    let l = number(field(line, 3))?;
+    let cap = number(field(line, 4))?;
+    let sizes = Sizes::plain(n, m, l, cap);
+    sizes.within().then_some(Line::Heap(sizes))
 }
 
-// What line 1 says.
-pub fn first_line(line: &[u8]) -> Line
-    ensures { result ≡ head_line_of line.now }
+// What line 1 says; none where it breaks the rules.
+#[tactic(auto, using(crate::proofs::TextLaws::same_pointwise), unfolding(crate::specs::Line::head_line_of))]
+pub fn first_line(line: &[u8]) -> Option<Line>
+    ensures { option_of result ≡ head_line_of line.now }
 {
-    if LONGEST < line.len() {
-        return Line::Bad;
+    if LONGEST < line.len() || fields(line) != 5 || field(line, 0) != b"heap".as_slice() {
+        return None;
     }
-    if fields(line) != 5 {
-        return Line::Bad;
-    }
-    if same(field(line, 0), b"heap") {
-        return heap_line(line);
-    }
-    Line::Bad
+    heap_line(line)
 }

@@ -1,8 +1,7 @@
 -- A settle on all rows. Assumes nothing.
-use Rattle.std.specs.Prelude.{ℕ, ◌+◌, ◌≤◌, ◌≡◌, Bool, cond, List, map, length, get_or, set, replicate, ℤ, pos, negsuc}
+use Rattle.std.specs.Prelude.{ℕ, ◌+◌, ◌≤◌, ◌≡◌, Bool, cond, List, map, length, replicate, ℤ}
 use Rattle.std.proofs.Math.Option.{Option}
 use Rattle.rules.specs.declared.Call.{Call}
-use Rattle.rules.specs.declared.Call.TheVariants.{New, Do, Settle}
 use Rattle.rules.specs.declared.Sizes.{Sizes}
 use Rattle.rules.specs.declared.State.{State}
 use Rattle.rules.specs.Field.{variable_of}
@@ -38,22 +37,6 @@ abbrev pub Settles : Sizes → Lent → State → Lent → State → Type 0
 Settles s r at r' o = (own : List ℤ) (hs : List (Option ℕ)) (h : Heap) → Whole s (holding own r) at h → r.variables ≡ map variable_of hs → Settled s hs (holding own r') at h o
 
 -- ---- the settle before a call
-
--- the row of variables, with v let go before a new; the word that v has there; and the row with that word put back
-abbrev pub set_aside : Call → List ℤ → List ℤ
-set_aside (New v) xs = set xs v (negsuc 0)
-set_aside (Do d) xs = xs
-set_aside Settle xs = xs
-
-abbrev pub own_word : Call → List ℤ → ℤ
-own_word (New v) xs = get_or xs v (pos 0)
-own_word (Do d) xs = pos 0
-own_word Settle xs = pos 0
-
-abbrev pub put_back : Call → ℤ → List ℤ → List ℤ
-put_back (New v) x xs = set xs v x
-put_back (Do d) x xs = xs
-put_back Settle x xs = xs
 
 -- all rows are some heap, and a settle can be made before this call
 pub record Roomable (c : Call) (s : Sizes) (r : Lent) (at : State) : Type 0 where

@@ -4,149 +4,90 @@
 ghost use Rattle.std.specs.Prelude.{◌<◌, ◌≡◌, length};
 ghost use Rattle.rules.specs.Call.{Fits};
 ghost use Rattle.rules.specs.Rules.{apply};
-ghost use Rattle.rules.specs.Lending.{tables_now, rows_now};
 ghost use Rattle.tables.specs.Row.{Tabled, TablesBy};
-ghost use Rattle.cells.specs.Log.{transaction};
+ghost use Rattle.tables.specs.Lending.{rows_in, SameTables};
+ghost use Rattle.cells.specs.Lending.{lent_in, SameRows};
+ghost use Rattle.cells.specs.Log.{note_of, logs_as};
 ghost use Rattle.settle.specs.Replaying.{Replayable, Replays};
-ghost use Rattle.settle.specs.Settling.{Settleable, Settles, set_aside, own_word, put_back, Roomable, MakesRoom};
+ghost use Rattle.settle.specs.Settling.{Settleable, Settles, Roomable, MakesRoom};
 
-use cells::{clear, entry_at, mark_held};
+use cells::{Entry, Rows, entry_at, held, hold, mark_held};
 use reclaim::reclaim;
 use rules::{Call, Sizes, State, Used};
-use tables::{allocate, create, destroy};
+use tables::Tables;
 
-// One entry of the log on the tables: kind 1 allocate, 2 create, 3 destroy.
-fn replay_one(
-    zct: &mut [u32],
-    mrt: &mut [u32],
-    counts: &mut [u32],
-    used: Used,
-    cap: u32,
-    kind: u32,
-    a: usize,
-) -> Used
-    requires tabled { Tabled cap (tables_now zct.old mrt.old counts.old) used }
-    requires a_in_bounds { a < length zct.old }
-    ensures { TablesBy cap (apply cap (transaction kind a)) (tables_now zct.old mrt.old counts.old) used (tables_now zct.new mrt.new counts.new) result }
+// One entry of the log on the tables.
+fn replay_one(tables: &mut Tables, used: &mut Used, cap: u32, entry: Entry)
+    requires tabled { Tabled cap (rows_in tables.old) used.old }
+    requires a_in_bounds { (note_of entry).address < length tables.old.zct.now }
+    ensures tables { TablesBy cap (apply cap (logs_as entry)) (rows_in tables.old) used.old (rows_in tables.new) used.new }
+    ensures same { SameTables tables.old tables.new }
 {
-    let w = a as u32;
-    if kind == 1 {
-        return allocate(zct, used, w);
+    match entry {
+        Entry::Allocate(a) => tables.allocate(used, a as u32),
+        Entry::Create(a) => tables.create(used, cap, a as u32),
+        Entry::Destroy(a) => tables.destroy(used, cap, a as u32),
     }
-    if kind == 2 {
-        return create(zct, mrt, counts, used, cap, w);
-    }
-    destroy(zct, mrt, counts, used, cap, w)
 }
 
 // The log's entries, len of them, in their order on the tables.
-fn replay(
-    log: &[u32],
-    len: usize,
-    zct: &mut [u32],
-    mrt: &mut [u32],
-    counts: &mut [u32],
-    used: Used,
-    cap: u32,
-) -> Used
-    requires { Replayable cap log.now len (tables_now zct.old mrt.old counts.old) used }
-    ensures { Replays cap log.now len (tables_now zct.old mrt.old counts.old) used (tables_now zct.new mrt.new counts.new) result }
+// Stays: document 01 lends the log's row whole, and entry_at, which is public, reads at a place; `Logged` speaks of the row and its length.
+fn replay(log: &[u32], len: usize, tables: &mut Tables, used: &mut Used, cap: u32)
+    requires { Replayable cap log.now len (rows_in tables.old) used.old }
+    ensures tables { Replays cap log.now len (rows_in tables.old) used.old (rows_in tables.new) used.new }
+    ensures same { SameTables tables.old tables.new }
 {
-    let mut u = used;
-    let mut i = 0;
-    while i < len {
-        let e = entry_at(log, i);
-        let kind = e.kind;
-        let a = e.address;
-        u = replay_one(zct, mrt, counts, u, cap, kind, a);
-        i += 1;
+    for i in 0..len {
+        let Ok(entry) = Entry::try_from(entry_at(log, i)) else {
+            unreachable!()
+        };
+        replay_one(tables, used, cap, entry);
     }
-    u
 }
 
 // A settle: replays the log and empties it, then reclaims what no variable holds. The work row is zero afterwards.
-pub fn settle(
-    kinds: &mut [u8],
-    values: &mut [i32],
-    variables: &[i32],
-    zct: &mut [u32],
-    mrt: &mut [u32],
-    counts: &mut [u32],
-    log: &mut [u32],
-    work: &mut [u32],
-    at: State,
-    sizes: Sizes,
-) -> State
-    requires { Settleable sizes (rows_now kinds.old values.old variables.now zct.old mrt.old counts.old log.old work.old) at }
-    ensures { Settles sizes (rows_now kinds.old values.old variables.now zct.old mrt.old counts.old log.old work.old) at
-        (rows_now kinds.new values.new variables.now zct.new mrt.new counts.new log.new work.new) result }
+// Stays: rows, work, at and sizes side by side: a struct of them would hold a `&mut` to a struct of `&mut`s, and each clause would say of one reference more that it is the same.
+pub fn settle(rows: &mut Rows, work: &mut [u32], at: &mut State, sizes: Sizes)
+    requires { Settleable sizes (lent_in rows.old work.old) at.old }
+    ensures settles { Settles sizes (lent_in rows.old work.old) at.old (lent_in rows.new work.new) at.new }
+    ensures variables { rows.new.variables.now ≡ rows.old.variables.now }
+    ensures same { SameRows rows.old rows.new }
 {
     let cap = sizes.cap as u32;
-    let used = at.used;
-    let u = replay(log, at.len, zct, mrt, counts, used, cap);
-    clear(log);
+    let log = &mut *rows.log;
+    replay(log, at.len, &mut rows.tables, &mut at.used, cap);
+    log.fill(0);
+    at.len = 0;
+    let variables = &mut *rows.variables;
     mark_held(variables, work);
-    let replayed = State {
-        len: 0,
-        first: at.first,
-        used: u,
-        freed: at.freed,
-    };
-    let n = work.len();
-    let r = reclaim(kinds, values, zct, mrt, counts, work, replayed, cap, n);
-    clear(work);
-    r
-}
-
-// A new lets go of v. The result is the word that v had; 0 for a call that lets go of nothing.
-fn set_aside(call: Call, variables: &mut [i32]) -> i32
-    requires { Fits (length variables.old) call }
-    ensures { (variables.new ≡ set_aside call variables.old) × (result ≡ own_word call variables.old) }
-{
-    let Call::New(v) = call else {
-        return 0;
-    };
-    let own = variables[v];
-    variables[v] = -1;
-    own
-}
-
-// A new's v has that word again.
-fn put_back(call: Call, variables: &mut [i32], own: i32)
-    requires { Fits (length variables.old) call }
-    ensures { variables.new ≡ put_back call own variables.old }
-{
-    if let Call::New(v) = call {
-        variables[v] = own;
-    }
+    let most = work.len();
+    reclaim(&mut rows.fields, &mut rows.tables, work, at, cap, most);
+    work.fill(0);
 }
 
 // The settle before a call, where one is to be made. It counts what the variables hold; for a new, v is let go while it lasts.
+// Stays: a public promise: `MakesRoom` says by `make` what is left where a settle is made, and where none is.
 pub fn settle_for(
     call: Call,
     make: bool,
-    kinds: &mut [u8],
-    values: &mut [i32],
-    variables: &mut [i32],
-    zct: &mut [u32],
-    mrt: &mut [u32],
-    counts: &mut [u32],
-    log: &mut [u32],
+    rows: &mut Rows,
     work: &mut [u32],
-    at: State,
+    at: &mut State,
     sizes: Sizes,
-) -> State
-    requires { Roomable call sizes (rows_now kinds.old values.old variables.old zct.old mrt.old counts.old log.old work.old) at }
-    ensures { MakesRoom call make sizes (rows_now kinds.old values.old variables.old zct.old mrt.old counts.old log.old work.old) at
-        (rows_now kinds.new values.new variables.new zct.new mrt.new counts.new log.new work.new) result }
+)
+    requires { Roomable call sizes (lent_in rows.old work.old) at.old }
+    ensures room { MakesRoom call make sizes (lent_in rows.old work.old) at.old (lent_in rows.new work.new) at.new }
+    ensures same { SameRows rows.old rows.new }
 {
     if !make {
-        return at;
+        return;
     }
-    let own = set_aside(call, variables);
-    let room = settle(
-        kinds, values, variables, zct, mrt, counts, log, work, at, sizes,
-    );
-    put_back(call, variables, own);
-    room
+    let Call::New(v) = call else {
+        return settle(rows, work, at, sizes);
+    };
+    let variables = &mut *rows.variables;
+    let own = held(variables, v);
+    hold(variables, v, None);
+    settle(rows, work, at, sizes);
+    hold(&mut *rows.variables, v, own);
 }

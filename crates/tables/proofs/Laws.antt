@@ -1,13 +1,12 @@
 -- Laws of rows. Assumes nothing.
-use mathlib.Core.Path.{◌≡◌, refl, sym, ap, ◌∙◌}
+use mathlib.Core.Path.{◌≡◌, refl, ap, ◌∙◌}
 use mathlib.Core.Bool.{Bool, true, false, cond}
-use mathlib.Core.List.{List, [], ◌∷◌, ◌++◌, append_assoc, append-nil}
+use mathlib.Core.List.{List, [], ◌∷◌, ◌++◌, append_assoc}
 use Prim.Native.Nat.{ℕ, zero, suc, ◌+◌, ◌-◌, ◌≤◌, ◌<◌, zero-le, suc-le-suc}
 use native.Mathlib.Nat.{le_of_suc-le-suc, not-suc-le-zero, lt_trans}
-use native.Mathlib.Numerals.{add-one}
 use native.Mathlib.Omega.{arith}
-use lib.ListN.{length, take, drop, get_or, set, replicate, length-append, get_or-append}
-use lib.Seq.{get_or-take, length-take-le, drop_at, get_or_at, drop-length, take_all, take-take, drop-cons}
+use lib.ListN.{length, take, drop, get_or, set, replicate}
+use lib.Seq.{set_at, length-take-le, drop_at, take-take, drop-cons}
 use lib.Dec.{ltb}
 use borrow.Author.Tests.{lt-ltb, le-ltb}
 use Rattle.rules.specs.Table.{pad, Above, Ascending}
@@ -44,78 +43,18 @@ place_upto a (x ∷ z) (suc m) h l = go (place_upto a z m (le_of_suc-le-suc h) l
     go k true = suc-le-suc k
     go k false = zero-le
 
--- a store of what a list has at i takes a copy of i of its elements to a copy of one more
-pub store : (s d : List ℕ) (i : ℕ) → i < length s → i < length d → set (take i s ++ drop i d) i (get_or s i 0) ≡ take (i + 1) s ++ drop (i + 1) d
-store s d i h k = rw add-one (go s d i h k)
-  where
-    go : (s d : List ℕ) (i : ℕ) → i < length s → i < length d → set (take i s ++ drop i d) i (get_or s i 0) ≡ take (suc i) s ++ drop (suc i) d
-    go [] d i h k = absurd (not-suc-le-zero h)
-    go (x ∷ s) [] i h k = absurd (not-suc-le-zero k)
-    go (x ∷ s) (y ∷ d) zero h k = refl
-    go (x ∷ s) (y ∷ d) (suc i) h k = ap (λ (l : List ℕ). x ∷ l) (go s d i (le_of_suc-le-suc h) (le_of_suc-le-suc k))
-
 -- the same of the used part of a row
-module _ (row : List ℕ) (used : ℕ) (fits : used ≤ length row) (a : ℕ) where
-  pub place-used : place a (take used row) ≤ used
-  place-used = omega (arith, place-le a (take used row), length-take-le used row fits)
-
-  module _ (m : ℕ) (h : m < used) where
-    in_used : m < length (take used row)
-    in_used = rw (length-take-le used row fits) h
-
-    pub used-above : Ascending (take used row) → get_or row m 0 < a → m < place a (take used row)
-    used-above s l = place-above a (take used row) m s in_used (rw get_or-take l)
-
-    pub used_upto : a ≤ get_or row m 0 → place a (take used row) ≤ m
-    used_upto l = place_upto a (take used row) m in_used (rw get_or-take l)
-
--- past a copy of i elements of s over d, d stands as it was
-pub copied_at : (s d : List ℕ) (i k : ℕ) → i ≤ length s → i ≤ length d → i ≤ k → get_or (take i s ++ drop i d) k 0 ≡ get_or d k 0
-copied_at s d zero k h l m = refl
-copied_at [] d (suc i) k h l m = absurd (not-suc-le-zero h)
-copied_at (x ∷ s) [] (suc i) k h l m = absurd (not-suc-le-zero l)
-copied_at (x ∷ s) (y ∷ d) (suc i) zero h l m = absurd (not-suc-le-zero m)
-copied_at (x ∷ s) (y ∷ d) (suc i) (suc k) h l m = copied_at s d i k (le_of_suc-le-suc h) (le_of_suc-le-suc l) (le_of_suc-le-suc m)
-
--- a row l that is such a copy, with one more element stored
-pub stored : (s d l : List ℕ) (i v : ℕ) → i < length s → i < length d → l ≡ take i s ++ drop i d → v ≡ get_or s i 0 → set l i v ≡ take (i + 1) s ++ drop (i + 1) d
-stored s d l i v h k e w = rw (e, w) (store s d i h k)
-
-pub copied_next : (d l : List ℕ) (x i : ℕ) → i < length d → l ≡ take i (x ∷ d) ++ drop i d → get_or l i 0 ≡ get_or (x ∷ d) (i + 1) 0
-copied_next d l x i h e = rw (e, add-one) (copied_at (x ∷ d) d i i (omega arith) (omega arith) (omega arith))
-
--- the copy is whole
-pub copied_all : (s d l : List ℕ) (i : ℕ) → i ≤ length d → length d ≤ i → l ≡ take i s ++ drop i d → l ≡ take (length d) s
-copied_all s d l i h k e =
-    let q : i ≡ length d = omega arith in
-    e ∙ rw (q, drop-length) (append-nil (take (length d) s))
+pub place-used : (row : List ℕ) (used : ℕ) → used ≤ length row → (a : ℕ) → place a (take used row) ≤ used
+place-used row used fits a = omega (arith, place-le a (take used row), length-take-le used row fits)
 
 -- a list without its first element, and 0 after it
 abbrev pub down : List ℕ → List ℕ
 down l = drop 1 l ++ (0 ∷ [])
 
-pub length-down : (t : List ℕ) → 0 < length t → length (down t) ≡ length t
-length-down [] h = absurd (not-suc-le-zero h)
-length-down (x ∷ t) h = length-append t (0 ∷ []) ∙ add-one (length t)
-
-pub down-next : (t l : List ℕ) (i : ℕ) → i + 1 < length t → l ≡ take i (down t) ++ drop i t → get_or l (i + 1) 0 ≡ get_or (down t) i 0
-down-next [] l i h e = absurd (not-suc-le-zero h)
-down-next (x ∷ t) l i h e =
-    let k : i < length t = omega arith in
-    rw e
-    (copied_at (down (x ∷ t)) (x ∷ t) i (i + 1) (omega (arith, length-down (x ∷ t) (omega arith))) (omega arith) (omega arith)
-    ∙ rw (add-one, get_or-append t (0 ∷ []) 0 i k))
-
-pub down_last : (t l : List ℕ) (j i : ℕ) → j ≡ i → i + 1 ≡ length t → l ≡ take j (down t) ++ drop j t → set l i 0 ≡ down t
-down_last t l j i q h e' =
-    let e : l ≡ take i (down t) ++ drop i t = rw q at e' in
-    let n : length (down t) ≡ length t = length-down t (omega arith) in
-    copied_all (down t) t (set l i 0) (i + 1) (omega arith) (omega arith) (stored (down t) t l i 0 (omega arith) (omega arith) e (zero-at t h))
-    ∙ take_all (length t) (down t) (omega arith)
-  where
-    zero-at : (t : List ℕ) → i + 1 ≡ length t → 0 ≡ get_or (down t) i 0
-    zero-at [] q = absurd (omega arith)
-    zero-at (x ∷ t) q = sym (get_or_at t 0 [] 0 i (omega arith))
+-- its first element put last, and 0 there instead
+pub turned_down : (t l : List ℕ) → 0 < length t → l ≡ drop 1 t ++ take 1 t → set l (length t - 1) 0 ≡ down t
+turned_down [] l h e = absurd (not-suc-le-zero h)
+turned_down (x ∷ t) l h e = rw e (set_at t x [] 0 (length (x ∷ t) - 1) (omega arith))
 
 -- lengths of put and cut
 pub length-put : (p x : ℕ) (z : List ℕ) → length (put p x z) ≡ suc (length z)

@@ -1,22 +1,39 @@
 -- The rows of MRT that are entries, and the entries after a create or a destroy. Assumes nothing.
-use mathlib.Core.Path.{◌≡◌, refl, ap, ◌∙◌}
-use mathlib.Core.Bool.{Bool, true, false}
+use mathlib.Core.Path.{◌≡◌, sym, ap, ◌∙◌}
+use mathlib.Core.Bool.{true, false}
 use mathlib.Core.List.{List}
 use Prim.Native.Nat.{ℕ, zero, suc, ◌+◌, ◌-◌, ◌≤◌, ◌<◌}
 use native.Mathlib.Numerals.{add-one}
 use native.Mathlib.Omega.{arith}
 use lib.ListN.{length, take, get_or, set}
 use lib.Seq.{length-take-le, get_or-take, set-get_or}
-use lib.Dec.{eqb}
-use borrow.Author.Tests.{eqb-true, eqb-false, ne_eqb, eq-eqb}
-use Rattle.rules.specs.Table.{Entry, has, enter, delete, count_in, addresses, pad, Ascending}
+use borrow.Author.Tests.{ne_eqb, eq-eqb}
+use Rattle.rules.specs.Table.{Entry, has, enter, delete, count_in, addresses, counts, pad, All, Ascending}
 use Rattle.rules.specs.Heap.{Tables}
 use Rattle.rules.specs.Rules.{enter_mrt, leave_mrt, on_create, on_destroy}
-use Rattle.tables.specs.Row.{place, put, cut, Moved, Listed, MrtRows, Pair}
+use Rattle.rules.specs.Whole.{Is}
+use Rattle.tables.specs.Row.{place, put, cut, Padded, Listed}
 use Rattle.rules.proofs.Unique.{is-take}
-use Rattle.rules.proofs.Positions.{all_at}
-use Rattle.tables.proofs.Places.{count_none, count-there, there-addresses, there-counts, cut-addresses, cut-counts, put-addresses, put-counts}
+use Rattle.rules.proofs.Positions.{all_at, has-at}
+use Rattle.tables.proofs.Places.{place_at, count_none, count-there, there-addresses, there-counts, cut-addresses, cut-counts, put-addresses, put-counts}
 use Rattle.tables.proofs.Single.{put_is, cut-is, set_is, entry-used, enter-room}
+
+-- the rows of MRT, of one length: addresses so, and beside each a count from 2 to the cap
+pub record MrtRows (cap : ℕ) (ms cs : List ℕ) (used : ℕ) : Type 0 where
+  pub listed : Listed ms used
+  pub beside : Padded cs used
+  pub long : length cs ≡ length ms
+  pub within : All (λ c. (2 ≤ c) × (c ≤ cap)) (take used cs)
+  pub big : 3 ≤ cap
+
+-- two rows of n are the addresses and the counts of the entries m
+pub record Pair (n : ℕ) (ms cs : List ℕ) (used : ℕ) (m : List Entry) : Type 0 where
+  pub mrt_is : Is n ms used (addresses m)
+  pub counts_is : Is n cs used (counts m)
+
+-- rows that are t's MRT are f t's afterwards
+abbrev pub MrtBy : (Tables → Tables) → List ℕ → List ℕ → ℕ → List ℕ → List ℕ → ℕ → Type 0
+MrtBy f ms cs used ms' cs' used' = (n : ℕ) (t : Tables) → Pair n ms cs used t.mrt → Pair n ms' cs' used' (f t).mrt
 
 -- what a transaction makes of MRT, by the count beside a
 module _ (cap a : ℕ) (t : Tables) where
@@ -50,6 +67,13 @@ module _ (cap a : ℕ) (t : Tables) where
       let e : suc k - 1 ≡ k = omega arith in
       rw (ne_eqb (suc k) cap n, ne_eqb k 1 (λ q. w (ap suc q)), e)
 
+-- the entry at place p
+pub entry-there : {ms : List ℕ} {used : ℕ} → Listed ms used → (p : ℕ) → p < used → (p ≡ place (get_or ms p 0) (take used ms)) × (has (get_or ms p 0) (take used ms) ≡ true)
+entry-there {ms} {used} L p l =
+    let w : p < length (take used ms) = omega (arith, length-take-le used ms L.padded.fits) in
+    let g : get_or (take used ms) p 0 ≡ get_or ms p 0 = get_or-take used ms p 0 l in
+    rw (← g) (sym (place_at p (take used ms) L.up w), has-at (take used ms) p w)
+
 module _ {cap used : ℕ} {ms cs : List ℕ} (C : MrtRows cap ms cs used) (a p : ℕ) (e : p ≡ place a (take used ms)) where
   abbrev L : Listed ms used
   L = C.listed
@@ -79,9 +103,6 @@ module _ {cap used : ℕ} {ms cs : List ℕ} (C : MrtRows cap ms cs used) (a p :
       pub count-is : count_in a m ≡ get_or cs p 0
       count-is = count-there a m up there ∙ rw (← at, ← is-take P.counts_is) (get_or-take used cs p 0 pair_used)
 
-      same_pair : Pair n ms (set cs p (get_or cs p 0)) used m
-      same_pair = rw (set-get_or cs p 0) P
-
       set_pair : (v : ℕ) → Pair n ms (set cs p v) used (enter a v m)
       set_pair v = record {
         mrt_is = rw (there-addresses a v m up there) P.mrt_is;
@@ -94,36 +115,30 @@ module _ {cap used : ℕ} {ms cs : List ℕ} (C : MrtRows cap ms cs used) (a p :
         counts_is = rw (cut-counts a m up there, ← at) (cut-is C.beside P.counts_is p pair_used l y);
       }
 
-    pub counted-up : (v : ℕ) → Moved cap (get_or cs p 0) (get_or cs p 0 + 1) v
-        → (n : ℕ) (t : Tables) → Pair n ms cs used t.mrt → Pair n ms (set cs p v) used (on_create cap a t false (count_in a t.mrt)).mrt
-    counted-up v M n t P = go (eqb (get_or cs p 0) cap) refl
-      where
-        go : (d : Bool) → eqb (get_or cs p 0) cap ≡ d → Pair n ms (set cs p v) used (on_create cap a t false (count_in a t.mrt)).mrt
-        go true w =
-            let g = pair_count in
-            let e = eqb-true (get_or cs p 0) cap w in
-            rw (count-is P, create_cap cap a t (get_or cs p 0) (omega arith) e, M.stays e) (same_pair P)
-        go false w =
-            let g = pair_count in
-            let e = eqb-false (get_or cs p 0) cap w in
-            rw (count-is P, create_more cap a t (get_or cs p 0) (omega arith) e, M.goes e) (set_pair P (get_or cs p 0 + 1))
+    -- a create: one more, but at the cap
+    pub counted-up : get_or cs p 0 < cap → MrtBy (λ t. on_create cap a t false (count_in a t.mrt)) ms cs used ms (set cs p (get_or cs p 0 + 1)) used
+    counted-up l n t P =
+        let g = pair_count in
+        rw (count-is P, create_more cap a t (get_or cs p 0) (omega arith) (λ q. omega arith)) (set_pair P (get_or cs p 0 + 1))
 
-    pub counted-down : (v : ℕ) → (get_or cs p 0 ≡ 2 → ⊥) → Moved cap (get_or cs p 0) (get_or cs p 0 - 1) v
-        → (n : ℕ) (t : Tables) → Pair n ms cs used t.mrt → Pair n ms (set cs p v) used (on_destroy cap a t (count_in a t.mrt)).mrt
-    counted-down v o M n t P = go (eqb (get_or cs p 0) cap) refl
-      where
-        go : (d : Bool) → eqb (get_or cs p 0) cap ≡ d → Pair n ms (set cs p v) used (on_destroy cap a t (count_in a t.mrt)).mrt
-        go true w =
-            let g = pair_count in
-            let e = eqb-true (get_or cs p 0) cap w in
-            rw (count-is P, destroy_cap cap a t (get_or cs p 0) (omega arith) e, M.stays e) (same_pair P)
-        go false w =
-            let g = pair_count in
-            let e = eqb-false (get_or cs p 0) cap w in
-            rw (count-is P, destroy_less cap a t (get_or cs p 0) g.0 e o, M.goes e) (set_pair P (get_or cs p 0 - 1))
+    pub stays-up : cap ≤ get_or cs p 0 → MrtBy (λ t. on_create cap a t false (count_in a t.mrt)) ms cs used ms (set cs p (get_or cs p 0)) used
+    stays-up l n t P =
+        let g = pair_count in
+        rw (count-is P, create_cap cap a t (get_or cs p 0) (omega arith) (omega arith), set-get_or cs p 0) P
+
+    -- a destroy: one less, but at the cap
+    pub counted-down : (get_or cs p 0 ≡ 2 → ⊥) → get_or cs p 0 < cap → MrtBy (λ t. on_destroy cap a t (count_in a t.mrt)) ms cs used ms (set cs p (get_or cs p 0 - 1)) used
+    counted-down o l n t P =
+        let g = pair_count in
+        rw (count-is P, destroy_less cap a t (get_or cs p 0) g.0 (λ q. omega arith) o) (set_pair P (get_or cs p 0 - 1))
+
+    pub stays-down : cap ≤ get_or cs p 0 → MrtBy (λ t. on_destroy cap a t (count_in a t.mrt)) ms cs used ms cs used
+    stays-down l n t P =
+        let g = pair_count in
+        rw (count-is P, destroy_cap cap a t (get_or cs p 0) (omega arith) (omega arith)) P
 
     pub counted_out : {xs ys : List ℕ} {r : ℕ} → get_or cs p 0 ≡ 2 → r ≡ used - 1 → xs ≡ pad (length ms) (cut p (take used ms)) → ys ≡ pad (length cs) (cut p (take used cs))
-        → (n : ℕ) (t : Tables) → Pair n ms cs used t.mrt → Pair n xs ys r (on_destroy cap a t (count_in a t.mrt)).mrt
+        → MrtBy (λ t. on_destroy cap a t (count_in a t.mrt)) ms cs used xs ys r
     counted_out w l x y n t P = rw (destroy_two cap a t (count_in a t.mrt) C.big (count-is P ∙ w)) (cut_pair P l x y)
 
   -- a is no entry
@@ -134,7 +149,7 @@ module _ {cap used : ℕ} {ms cs : List ℕ} (C : MrtRows cap ms cs used) (a p :
         omega (arith, enter-room L a p e small h)
 
     pub counted_in : {xs ys : List ℕ} {r : ℕ} → r ≡ used + 1 → xs ≡ pad (length ms) (put p a (take used ms)) → ys ≡ pad (length cs) (put p 2 (take used cs))
-        → (n : ℕ) (t : Tables) → Pair n ms cs used t.mrt → Pair n xs ys r (on_create cap a t false (count_in a t.mrt)).mrt
+        → MrtBy (λ t. on_create cap a t false (count_in a t.mrt)) ms cs used xs ys r
     counted_in l x y n t P =
         let q = is-take P.mrt_is in
         let o : has a (addresses t.mrt) ≡ false = rw q at h in

@@ -1,6 +1,10 @@
 -- Entries of ascending lists at their places: the lists of `rules` in terms of put, cut and set. Assumes nothing.
 use mathlib.Core.Path.{◌≡◌, refl, sym, ap, ◌∙◌}
-use mathlib.Core.Bool.{Bool, true, false, false≢true, true≢false}
+use mathlib.Core.Bool.{Bool, true, false, cond, false≢true, true≢false}
+use Rattle.std.specs.Prelude.{Result, Ok, Err, MatchResult}
+use Rattle.std.specs.Ordering.{nat_cmp}
+use Rattle.std.specs.List.Sorted.{IsBinarySearchResult}
+use Rattle.std.proofs.lemmas.List.Sorted.{searched}
 use mathlib.Core.List.{List, [], ◌∷◌}
 use Prim.Native.Nat.{ℕ, zero, suc, ◌+◌, ◌≤◌, ◌<◌, zero-le, suc-le-suc}
 use native.Mathlib.Nat.{le_of_suc-le-suc, not-suc-le-zero, le_of_lt}
@@ -8,13 +12,13 @@ use native.Mathlib.Omega.{arith}
 use lib.ListN.{length, take, get_or, set, length-map}
 use lib.Seq.{length-take-le, get_or-take}
 use lib.Dec.{ltb, eqb}
-use borrow.Author.Tests.{lt-ltb, le-ltb, ltb-true, ltb-false, eqb-true, eqb-false, ne_eqb, eq-eqb}
+use borrow.Author.Tests.{lt-ltb, le-ltb, ltb-true, ltb-false, eqb-true, eqb-false, ne_eqb}
 use Rattle.rules.specs.Table.{Entry, has, insert, remove, enter, delete, count_in, addresses, counts, Above, Below, Ascending}
 use Rattle.rules.proofs.Sorted.{enter-addresses, delete-addresses}
 use Rattle.rules.proofs.Positions.{count_at}
 use Rattle.rules.proofs.Roundtrip.{beside}
-use Rattle.tables.specs.Row.{place, put, cut}
-use Rattle.tables.proofs.Laws.{above_at}
+use Rattle.tables.specs.Row.{place, put, cut, Found}
+use Rattle.tables.proofs.Laws.{above_at, place-le, place-above}
 
 -- the three ways in which an entry x can stand to a, with what the tests then say
 pub data Versus (a x : ℕ) : Type 0 where
@@ -75,25 +79,50 @@ module _ (row : List ℕ) (used : ℕ) (fits : used ≤ length row) (a : ℕ) wh
       let l : place a (take used row) < used = omega (arith, r.0, length-take-le used row fits) in
       (l, sym (get_or-take used row (place a (take used row)) 0 l) ∙ r.1)
 
--- the test at a's place says whether it is an entry
-module _ (row : List ℕ) (used : ℕ) (fits : used ≤ length row) (a p : ℕ) (up : Ascending (take used row)) (e : p ≡ place a (take used row)) where
-  pub test_in : p < used → eqb (get_or row p 0) a ≡ has a (take used row)
-  test_in l = go (has a (take used row)) refl
-    where
-      go : (d : Bool) → has a (take used row) ≡ d → eqb (get_or row p 0) a ≡ d
-      go true h = eq-eqb (get_or row p 0) a (rw e (has-used row used fits a up h).1)
-      go false h = ne_eqb (get_or row p 0) a (λ q.
-          let n : length (take used row) ≡ used = length-take-le used row fits in
-          let k : place a (take used row) < length (take used row) = omega arith in
-          let g : get_or (take used row) p 0 ≡ a = get_or-take used row p 0 l ∙ q in
-          true≢false (sym (place-has a (take used row) k (rw e at g)) ∙ h))
+-- what stands before a's place is below a
+pub place-low : (a : ℕ) (z : List ℕ) (i : ℕ) → i < place a z → get_or z i 0 < a
+place-low a [] i h = absurd (not-suc-le-zero h)
+place-low a (x ∷ z) i h = go (ltb x a) refl i (place-low a z) h
+  where
+    go : (b : Bool) → ltb x a ≡ b → (i : ℕ) → ((i : ℕ) → i < place a z → get_or z i 0 < a) → i < cond (ltb x a) (suc (place a z)) zero → get_or (x ∷ z) i 0 < a
+    go true e zero ih h = ltb-true x a e
+    go true e (suc i) ih h = ih i (le_of_suc-le-suc (rw e at h))
+    go false e i ih h = absurd (not-suc-le-zero (rw e at h))
 
-  pub test_out : used ≤ p → false ≡ has a (take used row)
-  test_out l = go (has a (take used row)) refl
-    where
-      go : (d : Bool) → has a (take used row) ≡ d → false ≡ d
-      go true h = let k = (has-used row used fits a up h).0 in absurd (omega arith)
-      go false h = refl
+-- an ascending list does not fall
+rises : (z : List ℕ) → Ascending z → (i j : ℕ) → i ≤ j → j < length z → get_or z i 0 ≤ get_or z j 0
+rises [] s i j h l = absurd (not-suc-le-zero l)
+rises (x ∷ z) s zero zero h l = omega arith
+rises (x ∷ z) s zero (suc j) h l = omega (arith, above_at x z j s.0 (le_of_suc-le-suc l))
+rises (x ∷ z) s (suc i) zero h l = absurd (not-suc-le-zero h)
+rises (x ∷ z) s (suc i) (suc j) h l = rises z s.1 i j (le_of_suc-le-suc h) (le_of_suc-le-suc l)
+
+-- what a binary search of an ascending list finds
+pub found : (a : ℕ) (z : List ℕ) (r : Result ℕ ℕ) → Ascending z → IsBinarySearchResult (λ y. nat_cmp y a) z r → Found a z r
+found a z r up h = go r (searched z a r h (rises z up))
+  where
+    go : (r : Result ℕ ℕ) → MatchResult r (λ i. (i < length z) × (get_or z i 0 ≡ a)) (λ i. (i ≤ length z) × ((k : ℕ) → k < i → get_or z k 0 < a) × ((k : ℕ) → i ≤ k → k < length z → a < get_or z k 0)) → Found a z r
+    go (Ok i) f =
+        let e : place a z ≡ i = rw f.1 at (place_at i z up f.0) in
+        (sym e, place-has a z (omega arith) (rw (← e) at f.1))
+    go (Err i) f =
+        let w : place a z ≤ i = not_before (λ l. let q : i < length z = omega (arith, place-le a z) in omega (arith, place-low a z i l, f.2 i (omega arith) q)) in
+        let b = reached i f in
+        let e : place a z ≡ i = omega arith in
+        (sym e, lacks e f (has a z) refl)
+      where
+        not_before : {m n : ℕ} → (n < m → ⊥) → m ≤ n
+        not_before h = omega arith
+
+        reached : (i : ℕ) → (i ≤ length z) × ((k : ℕ) → k < i → get_or z k 0 < a) × ((k : ℕ) → i ≤ k → k < length z → a < get_or z k 0) → i ≤ place a z
+        reached zero f = zero-le
+        reached (suc k) f = place-above a z k up f.0 (f.1 k (omega arith))
+
+        lacks : {i : ℕ} → place a z ≡ i → (i ≤ length z) × ((k : ℕ) → k < i → get_or z k 0 < a) × ((k : ℕ) → i ≤ k → k < length z → a < get_or z k 0) → (d : Bool) → has a z ≡ d → d ≡ false
+        lacks e f true h =
+            let r = has-place a z up h in
+            absurd (omega (arith, r.1, rw e at (f.2 (place a z) (omega arith) r.0)))
+        lacks e f false h = refl
 
 -- ---- ZCT
 

@@ -1,10 +1,10 @@
 -- One row that is a list: what the code reads of it, and the list after an entry or a deletion. Assumes nothing.
-use mathlib.Core.Path.{◌≡◌, refl, sym, ap, ◌∙◌}
+use mathlib.Core.Path.{◌≡◌, ap, ◌∙◌}
 use mathlib.Core.Bool.{true, false}
 use mathlib.Core.List.{List}
 use Prim.Native.Nat.{ℕ, ◌+◌, ◌-◌, ◌≤◌, ◌<◌}
 use native.Mathlib.Omega.{arith}
-use lib.ListN.{length, take, set, replicate, length-append, length-set}
+use lib.ListN.{length, take, get_or, set, replicate, length-append, length-set}
 use lib.Seq.{length-take-le, set-append_left}
 use Rattle.rules.specs.Table.{has, insert, remove, pad, Below, Ascending}
 use Rattle.rules.specs.Whole.{Is}
@@ -16,10 +16,6 @@ use Rattle.tables.proofs.Places.{has-used, insert-there, insert-put, remove-cut,
 
 pub is-pad : (n used : ℕ) (row z : List ℕ) → length z ≤ n → used ≡ length z → row ≡ pad n z → Is n row used z
 is-pad n used row z h l e = record { long = ap length e ∙ length-pad n z h; count = l; padded = e }
-
--- a row that is padded is the list of its used part
-pub padded-is : {used : ℕ} {row : List ℕ} → Padded row used → Is (length row) row used (take used row)
-padded-is {used} {row} P = record { long = refl; count = sym (length-take-le used row P.fits); padded = P.zeros }
 
 -- a row that is the list z
 module _ {n used : ℕ} {row z : List ℕ} (I : Is n row used z) where
@@ -77,6 +73,9 @@ module _ {used : ℕ} {row : List ℕ} (L : Listed row used) (a p : ℕ) (e : p 
   module _ (h : has a (take used row) ≡ true) where
     pub entry-used : p < used
     entry-used = omega (arith, (has-used row used L.padded.fits a L.up h).0)
+
+    pub entry-is : get_or row p 0 ≡ a
+    entry-is = rw e (has-used row used L.padded.fits a L.up h).1
 
     pub enter-there : (n : ℕ) (z : List ℕ) → Is n row used z → Is n row used (insert a z)
     enter-there n z I = let q = is-take I in rw (insert-there a z (rw q at L.up) (rw q at h)) I

@@ -1,27 +1,26 @@
 -- From the rows of both tables to a transaction. Assumes nothing.
 use mathlib.Core.Path.{◌≡◌, refl, sym, ◌∙◌}
 use mathlib.Core.Bool.{Bool, true, false, cond}
-use mathlib.Core.List.{List, []}
+use mathlib.Core.List.{List}
 use Prim.Native.Nat.{ℕ, zero, suc, ◌-◌, ◌≤◌, ◌<◌}
-use native.Mathlib.Nat.{sub-zero}
 use native.Mathlib.Omega.{arith}
-use lib.ListN.{length, take, get_or, replicate, length-replicate}
-use lib.Seq.{get_or-take}
+use lib.ListN.{length, take, get_or}
+use lib.Seq.{get_or-take, length-take-le}
 use lib.Dec.{eqb}
 use Rattle.rules.specs.declared.Used.{Used}
 use Rattle.rules.specs.Table.{has, insert, remove, count_in, addresses, pad}
 use Rattle.rules.specs.Heap.{Tables, Transaction, allocates, creates, destroys}
 use Rattle.rules.specs.Rules.{enter_zct, leave_zct, enter_mrt, leave_mrt, on_create, on_destroy, apply}
 use Rattle.rules.specs.Rows.{TableRows, table_rows}
-use Rattle.rules.specs.Whole.{Is, Kept, Ready}
+use Rattle.rules.specs.Whole.{Kept, Ready}
 use Rattle.rules.specs.Invariant.{named}
 use Rattle.rules.proofs.Sorted.{insert-up, all_insert, leave_zct-kept, apply-kept}
-use Rattle.tables.specs.Row.{cut, Listed, MrtRows, Pair, Tabled, RowBy, MrtBy, TablesBy, ZctBy}
+use Rattle.tables.specs.Row.{cut, Listed, Tabled, RowBy, TablesBy, ZctBy}
 use Rattle.rules.proofs.Unique.{is-take}
-use Rattle.rules.proofs.Positions.{has-at}
+use Rattle.rules.proofs.Positions.{has-at, all_at}
 use Rattle.tables.proofs.Places.{place_at, remove-cut, count_none}
 use Rattle.tables.proofs.Single.{is-padded, is-listed, cut-is}
-use Rattle.tables.proofs.Pairs.{pair_count, count-is}
+use Rattle.tables.proofs.Pairs.{MrtRows, Pair, MrtBy, pair_count, count-is}
 
 -- rows that are tables over addresses below n, as the code wants them
 module _ {n cap : ℕ} {r : TableRows} {u : Used} {t : Tables} (R : Ready n cap r u t) where
@@ -50,15 +49,12 @@ module _ {n cap : ℕ} {r : TableRows} {u : Used} {t : Tables} (R : Ready n cap 
   pub tabled : n ≤ 1024 → 3 ≤ cap → Tabled cap r u
   tabled most big = let l = R.are.zct_is.long in record { most = omega arith; big = big; tables = t; ready = rw l R }
 
--- rows of zeros are empty tables
-zero_row : (n : ℕ) → Is n (replicate n 0) 0 []
-zero_row n = record { long = length-replicate n 0; count = refl; padded = rw (sub-zero n) }
+-- tables' rows stay such, of one length
+pub tabled_after : {cap : ℕ} {f : Tables → Tables} {r r' : TableRows} {u u' : Used} → Tabled cap r u → TablesBy cap f r u r' u' → Tabled cap r' u'
+tabled_after T b = tabled (b _ _ T.ready) T.most T.big
 
-pub fresh-ready : (n cap : ℕ) → Ready n cap (table_rows (replicate n 0) (replicate n 0) (replicate n 0)) (record { zct = 0; mrt = 0 }) (record { zct = []; mrt = [] })
-fresh-ready n cap = record {
-  are = record { zct_is = zero_row n; mrt_is = zero_row n; counts_is = zero_row n };
-  kept = record { zct_up = tt; zct_below = tt; mrt_up = tt; mrt_below = tt; mrt_counts = tt };
-}
+pub length_after : {cap : ℕ} {f : Tables → Tables} {r r' : TableRows} {u u' : Used} → Tabled cap r u → TablesBy cap f r u r' u' → length r'.zct ≡ length r.zct
+length_after T b = (b _ _ T.ready).are.zct_is.long
 
 -- the entry at place p of ZCT is cut out
 pub left : {cap p k : ℕ} {r : TableRows} {zs : List ℕ} {u : Used} → 3 ≤ cap → p < u.zct → k ≡ u.zct - 1 → zs ≡ pad (length r.zct) (cut p (take u.zct r.zct))
@@ -111,6 +107,22 @@ destroy_zct cap a t (suc k) h = go (eqb (suc k) cap) (eqb k 1)
     go true e = refl
     go false true = refl
     go false false = refl
+
+-- the rows of some tables, as the code wants them
+module _ {cap : ℕ} {r : TableRows} {u : Used} (T : Tabled cap r u) where
+  pub zct-rows : Listed r.zct u.zct
+  zct-rows = zct-listed T.ready
+
+  pub mrt-rows : MrtRows cap r.mrt r.counts u.mrt
+  mrt-rows = mrt-counted T.ready T.big
+
+  -- the entry at place p of MRT
+  pub mrt-entry : (p : ℕ) → p < u.mrt → get_or r.mrt p 0 < length r.zct
+  mrt-entry p l =
+      let L = mrt-rows.listed in
+      let m = T.ready.are.mrt_is.long in
+      let w : p < length (take u.mrt r.mrt) = omega (arith, length-take-le u.mrt r.mrt L.padded.fits) in
+      omega (arith, all_at (λ y. y < length r.mrt) (take u.mrt r.mrt) L.below p w, get_or-take u.mrt r.mrt p 0 l)
 
 -- a create and a destroy, of a below the rows' length
 module _ {cap : ℕ} {r : TableRows} {u : Used} (T : Tabled cap r u) (a : ℕ) (small : a < length r.zct) where

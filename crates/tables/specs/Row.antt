@@ -1,7 +1,7 @@
 -- Rows as the code sees them: a place in a row, an entry put in or cut out there, and what the code requires. Assumes nothing.
-use Rattle.std.specs.Prelude.{ℕ, zero, suc, ◌≤◌, ◌≡◌, cond, List, [], ◌∷◌, ◌++◌, ltb, length, take, drop}
+use Rattle.std.specs.Prelude.{ℕ, zero, suc, ◌≤◌, ◌≡◌, true, false, cond, Result, Ok, Err, List, [], ◌∷◌, ◌++◌, ltb, length, take, drop}
 use Rattle.rules.specs.declared.Used.{Used}
-use Rattle.rules.specs.Table.{Entry, addresses, counts, pad, All, Below, Ascending}
+use Rattle.rules.specs.Table.{has, pad, Below, Ascending}
 use Rattle.rules.specs.Heap.{Tables}
 use Rattle.rules.specs.Rows.{TableRows, table_rows}
 use Rattle.rules.specs.Whole.{Is, Ready}
@@ -19,10 +19,10 @@ put p x z = take p z ++ x ∷ drop p z
 abbrev pub cut : ℕ → List ℕ → List ℕ
 cut p z = take p z ++ drop (suc p) z
 
--- a count c is r afterwards: it stays where it is at the cap, and else is d
-pub record Moved (cap c d r : ℕ) : Type 0 where
-  pub stays : c ≡ cap → r ≡ c
-  pub goes : (c ≡ cap → ⊥) → r ≡ d
+-- a search for a in z: its place, and whether it is an entry
+abbrev pub Found : ℕ → List ℕ → Result ℕ ℕ → Type 0
+Found a z (Ok p) = (p ≡ place a z) × (has a z ≡ true)
+Found a z (Err p) = (p ≡ place a z) × (has a z ≡ false)
 
 -- the used part is within the row, and zeros come after it
 pub record Padded (row : List ℕ) (used : ℕ) : Type 0 where
@@ -34,19 +34,6 @@ pub record Listed (row : List ℕ) (used : ℕ) : Type 0 where
   pub padded : Padded row used
   pub up : Ascending (take used row)
   pub below : Below (length row) (take used row)
-
--- the rows of MRT, of one length: addresses so, and beside each a count from 2 to the cap
-pub record MrtRows (cap : ℕ) (ms cs : List ℕ) (used : ℕ) : Type 0 where
-  pub listed : Listed ms used
-  pub beside : Padded cs used
-  pub long : length cs ≡ length ms
-  pub within : All (λ c. (2 ≤ c) × (c ≤ cap)) (take used cs)
-  pub big : 3 ≤ cap
-
--- two rows of n are the addresses and the counts of the entries m
-pub record Pair (n : ℕ) (ms cs : List ℕ) (used : ℕ) (m : List Entry) : Type 0 where
-  pub mrt_is : Is n ms used (addresses m)
-  pub counts_is : Is n cs used (counts m)
 
 -- the rows of both tables are some tables
 pub record Tabled (cap : ℕ) (r : TableRows) (u : Used) : Type 0 where
@@ -61,14 +48,10 @@ pub record Tabled (cap : ℕ) (r : TableRows) (u : Used) : Type 0 where
 abbrev pub RowBy : (List ℕ → List ℕ) → List ℕ → ℕ → List ℕ → ℕ → Type 0
 RowBy f row used row' used' = (n : ℕ) (z : List ℕ) → Is n row used z → Is n row' used' (f z)
 
--- rows that are t's MRT are f t's afterwards
-abbrev pub MrtBy : (Tables → Tables) → List ℕ → List ℕ → ℕ → List ℕ → List ℕ → ℕ → Type 0
-MrtBy f ms cs used ms' cs' used' = (n : ℕ) (t : Tables) → Pair n ms cs used t.mrt → Pair n ms' cs' used' (f t).mrt
-
 -- rows that are the tables t are f t afterwards
 abbrev pub TablesBy : ℕ → (Tables → Tables) → TableRows → Used → TableRows → Used → Type 0
 TablesBy cap f r u r' u' = (n : ℕ) (t : Tables) → Ready n cap r u t → Ready n cap r' u' (f t)
 
--- the like, of a function that takes ZCT alone, at any cap
+-- the like, of a function that changes ZCT alone, at any cap and beside any rows of MRT
 abbrev pub ZctBy : (ℕ → Tables → Tables) → List ℕ → Used → List ℕ → Used → Type 0
 ZctBy f zs u zs' u' = (cap : ℕ) (ms cs : List ℕ) → TablesBy cap (f cap) (table_rows zs ms cs) u (table_rows zs' ms cs) u'

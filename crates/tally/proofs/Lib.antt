@@ -1,3 +1,2 @@
 -- the laws that belong to no one function
 pub mod First
-pub mod Going

@@ -3,13 +3,6 @@ use Rattle.std.specs.Prelude.{ℕ, ◌+◌, ◌≡◌, Bool, true, false, List, 
 use Rattle.std.proofs.Math.Option.{Option, none, some}
 use Rattle.rules.specs.declared.Call.{Call}
 use Rattle.rules.specs.Call.{call_of, calls_in}
-use Rattle.words.specs.declared.Decoded.{Decoded}
-use Rattle.words.specs.declared.Decoded.TheVariants.{Is, Bad}
-
--- the call that was found, if any
-abbrev pub decoded_as : Decoded → Option Call
-decoded_as (Is c) = some c
-decoded_as Bad = none
 
 -- is there a call?
 abbrev pub is_some : Option Call → Bool

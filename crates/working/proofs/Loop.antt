@@ -1,5 +1,5 @@
 -- The calls of a batch one after the other, and the settle at its end. Assumes nothing.
-use Prim.Native.Nat.{ℕ, suc, ◌+◌, ◌-◌, ◌*◌, ◌≤◌, ◌<◌}
+use Prim.Native.Nat.{ℕ, suc, ◌+◌, ◌-◌, ◌*◌, ◌/◌, ◌≤◌, ◌<◌}
 use mathlib.Core.Path.{◌≡◌, refl, sym, ap, ◌∙◌}
 use mathlib.Core.Bool.{Bool, true, false, cond}
 use mathlib.Core.Option.{none, some}
@@ -8,52 +8,31 @@ use native.Mathlib.Omega.{arith}
 use native.Mathlib.Numerals.{add-one}
 use lib.Dec.{leb}
 use lib.IntN.{ℤ, pos}
-use lib.ListN.{length, length-map, length-append, length-drop, get_or, set, take, drop, drop_of_length-le}
+use lib.ListN.{length, length-append, length-drop, get_or, set, take, drop, drop_of_length-le}
 use lib.Seq.{drop-cons, set_at}
 use borrow.Author.Tests.{leb-true}
 use Rattle.rules.specs.declared.Head.{Head}
 use Rattle.rules.specs.declared.Call.{Call}
 use Rattle.rules.specs.declared.Call.TheVariants.{Settle}
-use Rattle.rules.specs.declared.Outcome.{Outcome}
+use Rattle.rules.specs.declared.Refusal.{Refusal}
 use Rattle.rules.specs.declared.Sizes.{Sizes}
 use Rattle.rules.specs.declared.State.{State}
 use Rattle.rules.specs.Heap.{Heap}
 use Rattle.rules.specs.Settle.{settled}
-use Rattle.rules.specs.Call.{Answer, calls_of, calls_in}
+use Rattle.std.specs.Prelude.{Result}
+use Rattle.rules.specs.Call.{Answer, answer_of, calls_of, calls_in}
 use Rattle.rules.specs.Step.{step, calls}
-use Rattle.rules.specs.Rows.{Lent, lengths_of, rows_of}
-use Rattle.rules.specs.Sound.{Lengths}
+use Rattle.rules.specs.Rows.{Lent, rows_of}
 use Rattle.rules.specs.Whole.{start_of}
-use Rattle.rules.specs.Refusals.{answer_words, answered}
+use Rattle.rules.specs.Refusals.{Numbers, answer_words, answered}
 use Rattle.rules.proofs.Demand1.{words_long}
 use Rattle.rules.proofs.Whole.{rows_all, head-is}
-use Rattle.cells.proofs.Storing.{cell-lengths}
 use Rattle.words.specs.Words.{call_at}
 use Rattle.words.proofs.Listing.{listed}
 use Rattle.settle.specs.Settling.{Settled, Settles}
 use Rattle.settle.proofs.Settling.{settled-whole}
 use Rattle.working.specs.Working.{Standing, Workable, Works, answering, Runnable, ByTheRules, Runs, ended_at}
-use Rattle.working.proofs.Steps.{turn-call, turn-long, status-small}
-use Rattle.calls.specs.declared.Worked.{Worked}
-
--- ---- lengths
-
--- the lengths of rows that are a heap's
-pub long_of : {s : Sizes} {r : Lent} {at : State} {h : Heap} → Standing s r at h → Lengths s (lengths_of r)
-long_of S =
-    let W = S.whole in
-    let l = cell-lengths W.rows.cells in
-    let A = W.rows.ready.are in
-    record {
-      for_kinds = l.0;
-      for_values = l.1;
-      for_variables = rw W.variables_are (simp length-map S.inv.variables_long);
-      for_zct = A.zct_is.long;
-      for_mrt = A.mrt_is.long;
-      for_counts = A.counts_is.long;
-      for_log = W.log_long;
-      for_work = W.work_long;
-    }
+use Rattle.working.proofs.Steps.{turn-call, turn-long}
 
 -- ---- the loop
 
@@ -96,7 +75,7 @@ put_two p as' q x y e l =
 
 module _ {s : Sizes} {ds : List Call} {h : Heap} {i : ℕ} {r : Lent} {row row' : List ℤ} {at : State} (P : Progress s ds h i r row row' at) where
   went : {r' : Lent} {bs : List ℤ} {st : State} → i < length ds → 2 * length ds ≤ length row → Standing s r' st (step s (get_or ds i Settle) P.heap).heap
-      → bs ≡ answering i (step s (get_or ds i Settle) P.heap).answer.status (step s (get_or ds i Settle) P.heap).answer.value row'
+      → bs ≡ answering i (step s (get_or ds i Settle) P.heap).answer row'
       → Progress s ds h (suc i) r' row bs st
   unfolding calls
   went more room S e =
@@ -116,7 +95,7 @@ module _ {s : Sizes} {ds : List Call} {h : Heap} {i : ℕ} {r : Lent} {row row' 
             ∙ sym (append_assoc P.said (o.answer ∷ []) (calls s (drop (suc i) ds) o.heap).answers);
         words =
             e
-            ∙ ap (λ (l : List ℤ). answering i o.answer.status o.answer.value l) P.words
+            ∙ ap (λ (l : List ℤ). answering i o.answer l) P.words
             ∙ put_two (answer_words P.said) row (2 * i) (pos o.answer.status) o.answer.value (omega arith) (omega arith)
             ∙ rw (append-words P.said (o.answer ∷ []), q);
       }
@@ -134,6 +113,10 @@ module _ {s : Sizes} {ds : List Call} {h : Heap} {i : ℕ} {r : Lent} {row row' 
         is = rw (e, head-is W, W.rows.freed);
         answers = P.words ∙ rw (all, P.said_long);
       }
+
+-- the words of i calls, and of no more
+pub more_words : {i n : ℕ} → i < n / 4 → 4 * i < n
+more_words l = omega arith
 
 -- what the loop keeps: few cells are freed, and for every heap that the rows were its progress
 pub record BatchGoing (h : Head) (ws : List ℤ) (r : Lent) (row : List ℤ) (r' : Lent) (row' : List ℤ) (at : State) (i : ℕ) : Type 0 where
@@ -179,7 +162,7 @@ module _ {h : Head} {ws : List ℤ} {r : Lent} {row : List ℤ} {r' : Lent} {row
     pub roomy : 2 * i + 2 ≤ length row'
     roomy = let l = list-long in let a = answers-same in let k = G.run.room in omega arith
 
-    module _ {q : Lent} {w : Worked} (worked : Works h.sizes (take (length ws - 4 * i) (drop (4 * i) ws)) r' at q w) where
+    module _ {q : Lent} {st : State} {a : Result ℤ Refusal} (worked : Works h.sizes (take (length ws - 4 * i) (drop (4 * i) ws)) r' at q st a) where
       -- what was worked, for any list that the words are
       turned : (es : List Call) → calls_in h.sizes.m ws ≡ some es → i < length es → call_at h.sizes.m (take (length ws - 4 * i) (drop (4 * i) ws)) 0 ≡ some (get_or es i Settle)
       turned es e j = turn-call ws i four h.sizes.m ((listed h.sizes.m ws es e).call i j)
@@ -187,14 +170,7 @@ module _ {h : Head} {ws : List ℤ} {r : Lent} {row : List ℤ} {r' : Lent} {row
       here : i < length G.run.list
       here = let l = list-long in omega arith
 
-      pub status-here : w.status ≤ 1024
-      status-here =
-          let c = get_or G.run.list i Settle in
-          let e = (worked _ _ (turned G.run.list G.run.are here) now-at.standing).status in
-          let k = status-small h.sizes c now-at.heap in
-          omega arith
-
-      pub again : {bs : List ℤ} → bs ≡ answering i w.status w.value row' → BatchGoing h ws r row q bs w.state (i + 1)
+      pub again : {bs : List ℤ} → bs ≡ answering i (answer_of a) row' → BatchGoing h ws r row q bs st (i + 1)
       again answer =
           let l = list-long in
           let f = G.few in
@@ -210,14 +186,14 @@ module _ {h : Head} {ws : List ℤ} {r : Lent} {row : List ℤ} {r' : Lent} {row
                 let P = G.progress es k e S in
                 let same : G.run.list ≡ es = same-list e in
                 let B = worked _ _ (turned es e j) P.standing in
-                rw (add-one i) (went P j (rw same at G.run.room) B.standing (rw (← B.status, ← B.value) answer));
+                rw (add-one i) (went P j (rw same at G.run.room) B.standing (rw (← B.answer) answer));
           }
         where
           same-list : {es : List Call} → calls_in h.sizes.m ws ≡ some es → G.run.list ≡ es
           same-list e = let a = G.run.are in cc
 
   -- the calls are done, and the settle at the end is made
-  pub finish : {q : Lent} {o : State} {z : Outcome} → length ws ≤ 4 * i → Settles h.sizes r' at q o → q.variables ≡ r'.variables → z ≡ ended_at h.sizes o → Runs h ws r row q row' z
+  pub finish : {q : Lent} {o : State} {z : Numbers} → length ws / 4 ≤ i → Settles h.sizes r' at q o → q.variables ≡ r'.variables → z ≡ ended_at h.sizes o → Runs h ws r row q row' z
   finish {q} end D v e es k c S =
       let n = (listed h.sizes.m ws es c).long in
       let P = G.progress es k c S in

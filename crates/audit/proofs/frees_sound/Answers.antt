@@ -3,10 +3,10 @@ use Rattle.rules.proofs.Answers.{isn't, same}
 use Rattle.checks.proofs.Walks.{came, no-list, met-frees, frees-met}
 use Rattle.audit.proofs.frees_sound.Goals as goal
 
-pub returns-then-not-walk : goal.returns-then-not-walk
-returns-then-not-walk c = isn't (no-list _ _ _ _ c.walk.ensures c.if-not-walk.true)
-
-pub returns : goal.returns
-returns c =
-    let m = came _ _ _ _ c.walk.ensures c.if-not-walk.false in
+pub returns-then-walk : goal.returns-then-walk
+returns-then-walk c =
+    let m = came _ _ _ _ c.walk.ensures c.if-walk.true in
     same (met-frees _ _ _ _ _ m) (frees-met _ _ _ _ _ m) c.all_met.ensures
+
+pub returns-else-walk : goal.returns-else-walk
+returns-else-walk c = rw c.if-walk.false (isn't (no-list _ _ _ _ c.walk.ensures c.if-walk.false))

@@ -1,15 +1,16 @@
 -- The field that was read, or nothing: of the rows, and of the shape that they show.
-use Rattle.before.proofs.Seeing.{at_some, at_none, below-some, below_none}
+use Rattle.std.proofs.Common.{refl}
+use Rattle.before.specs.Seen.{field_below}
+use Rattle.before.proofs.Seeing.{seen_below}
 use Rattle.before.proofs.field_of.Goals as goal
 
-pub returns-then-a-n-clause-field : goal.returns-then-a-n-clause-field
-returns-then-a-n-clause-field c = below-some _ _ _ c.held-a.ensures c.if-a-n.true c.field_at.ensures
+pub returns-in-Some-clause-seen : goal.returns-in-Some-clause-seen
+returns-in-Some-clause-seen c s S = seen_below _ _ S c.requires.v_below c.in-Some.ensures c.field_below.ensures
 
-pub returns-then-a-n-clause-seen : goal.returns-then-a-n-clause-seen
-returns-then-a-n-clause-seen c s S = at_some S _ _ c.requires.v_below c.held-a.ensures c.if-a-n.true c.field_at.ensures
+pub returns-in-None-clause-field : goal.returns-in-None-clause-field
+unfolding field_below
+returns-in-None-clause-field c = rw (← c.in-None.ensures)
 
-pub returns-clause-field : goal.returns-clause-field
-returns-clause-field c = below_none _ _ _ c.held-a.ensures c.if-a-n.false
-
-pub returns-clause-seen : goal.returns-clause-seen
-returns-clause-seen c s S = at_none S _ _ c.requires.v_below c.held-a.ensures c.if-a-n.false
+pub returns-in-None-clause-seen : goal.returns-in-None-clause-seen
+unfolding field_below
+returns-in-None-clause-seen c s S = seen_below _ _ S c.requires.v_below c.in-None.ensures refl

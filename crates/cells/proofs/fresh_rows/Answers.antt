@@ -1,7 +1,8 @@
--- Each row by the function that writes it.
+-- Each row by what writes it.
+use Rattle.std.proofs.Common.{rules}
 use Rattle.cells.proofs.Freshness.{rows-fresh}
 use Rattle.cells.proofs.fresh_rows.Goals as goal
 
-pub returns : goal.returns
-returns c =
-    rows-fresh c.requires c.fresh_cells.ensures.0 c.fresh_cells.ensures.1 c.fill_nothing.ensures c.clear.ensures c.clear-2.ensures c.clear-3.ensures c.clear-4.ensures c.clear-5.ensures
+pub returns-clause-rows : goal.returns-clause-rows
+returns-clause-rows c =
+    rows-fresh c.requires c.free_all.ensures.kinds c.free_all.ensures.values (search rules) (search rules) (search rules) (search rules) (search rules) (search rules)

@@ -1,7 +1,5 @@
--- An entry where the field is a cell: 3 is a destroy.
-use Rattle.cells.specs.Log.{transaction}
+-- An entry where the field is a cell.
 use Rattle.cells.proofs.log_old.Goals as goal
 
 pub returns-in-Cell-clause-logged : goal.returns-in-Cell-clause-logged
-unfolding transaction
 returns-in-Cell-clause-logged c = rw c.in-Cell.is (λ n xs L I. c.add_entry.ensures.logged n xs L I)

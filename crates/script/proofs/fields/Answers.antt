@@ -1,15 +1,11 @@
-use Rattle.std.proofs.Common.{ap, length, arith}
-use Rattle.script.proofs.TextLaws.{tab_here, tab_on, tab_end}
+use Rattle.std.proofs.Common.{ap, length, ◌∙◌, rules, tests, eqb}
+use Rattle.std.proofs.lemmas.Iterator.Consumers.{count_from_yields_List}
+use Rattle.std.proofs.lemmas.Iterator.Splits.{YieldsList-from_slice_split}
+use Rattle.script.proofs.TextLaws.{split_fields}
 use Rattle.script.proofs.fields.Goals as goal
-use Rattle.script.proofs.fields.Goals.{then-s-at-eq9, else-s-at-eq9}
-
-pub loop-at-preserved : goal.loop-at-preserved
-loop-at-preserved c =
-    let h = c.loop-at-test.true in
-    elim c.if-s-at-eq9.branch [
-      | then-s-at-eq9 w ↦ omega (arith, ap length (tab_here _ _ h w.if-s-at-eq9.true))
-      | else-s-at-eq9 w ↦ omega (arith, ap length (tab_on _ _ h w.if-s-at-eq9.false))
-    ]
 
 pub returns : goal.returns
-returns c = omega (arith, ap length (tab_end _ _ c.loop-at-test.false))
+returns c =
+    let e = c.split.ensures in
+    count_from_yields_List c.split.result _ c.count.ensures.ran (YieldsList-from_slice_split _ (λ b. eqb b 9) c.args.s.now e.rest e.done e.closure (λ x b q k. search (rules, tests)))
+    ∙ ap length (split_fields c.args.s.now)

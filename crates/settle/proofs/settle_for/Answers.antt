@@ -1,18 +1,26 @@
--- No settle, or one with v let go before it and put back after it.
-use Rattle.std.proofs.Common.{◌∙◌, rules}
-use mir.Syntax.{w32}
-use mir.Val.{SFits}
-use Rattle.cells.proofs.Signed.{back}
-use Rattle.settle.proofs.Settling.{room_as_is, settleable_for, room_by}
+-- No settle, or one; for a new with v let go before it, and holding again after it what it held.
+use Rattle.std.proofs.Common.{rules}
+use Rattle.rules.specs.Field.{option_of}
+use Rattle.cells.specs.Leaves.{Near}
+use Rattle.settle.proofs.Settling.{room_as_is, room_for, settleable_for, still_there, own_near, room_for_new}
 use Rattle.settle.proofs.settle_for.Goals as goal
 
-pub returns-then-not-make : goal.returns-then-not-make
-returns-then-not-make c = room_as_is c.args.call c.if-not-make.true
+pub returns-then-not-make-clause-room : goal.returns-then-not-make-clause-room
+returns-then-not-make-clause-room c = room_as_is c.args.call c.if-not-make.true
 
-pub settle-room-requires : goal.settle-room-requires
-settle-room-requires c = rw c.set_aside-own.ensures.0 (settleable_for c.args.call c.requires)
+pub returns-in_default-clause-room : goal.returns-in_default-clause-room
+returns-in_default-clause-room c = room_for c.args.call c.in_default.not-New c.if-not-make.false c.settle.ensures.variables c.settle.ensures.settles
 
-pub returns : goal.returns
-returns c =
-    let f : SFits w32 c.set_aside-own.result = search rules in
-    room_by c.args.call c.if-not-make.false c.set_aside-own.ensures.0 (back _ f.sfits ∙ c.set_aside-own.ensures.1) c.put_back.ensures c.settle-room.ensures
+pub settle-requires-2 : goal.settle-requires-2
+settle-requires-2 c = settleable_for c.args.call c.in-New.is c.hold.ensures c.requires
+
+pub hold-requires-2 : goal.hold-requires-2
+hold-requires-2 c =
+    let l = still_there c.args.call _ _ c.in-New.is c.hold.ensures c.settle-2.ensures.variables c.requires.fits in
+    let N : Near (option_of c.held-own.result) = own_near c.args.call c.in-New.is c.held-own.ensures c.requires.fits c.requires in
+    search rules
+
+pub returns-clause-room : goal.returns-clause-room
+returns-clause-room c =
+    let S = c.settle-2.ensures in
+    room_for_new c.args.call c.in-New.is c.held-own.ensures c.requires.fits _ c.if-not-make.false c.hold.ensures S.variables c.hold-2.ensures S.settles

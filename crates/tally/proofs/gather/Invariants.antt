@@ -1,13 +1,13 @@
-use Rattle.std.proofs.Common.{◌-◌, ◌+◌, ◌≤◌}
+use Rattle.std.proofs.Common.{◌-◌, ◌+◌, ◌≤◌, ◌≡◌}
 use Rattle.tally.proofs.gather.Given as goal
 
-abbrev pub invariant-loop-at : goal.invariant-loop-at
-invariant-loop-at l = record {
-  most : l.lines ≤ 1000000;
-  more : l.initial.lines ≤ l.lines;
-  own : l.closed + l.count ≤ l.lines;
+abbrev pub invariant-loop-reader : goal.invariant-loop-reader
+invariant-loop-reader l = record {
+  text : l.reader.text ≡ l.initial.reader.text;
+  most : l.reader.number ≤ 1000000;
+  own : l.before + l.count ≤ l.reader.number;
   batch : l.count ≤ 256;
 }
 
-abbrev pub decreases-loop-at : goal.decreases-loop-at
-decreases-loop-at l = 1000000 - l.lines
+abbrev pub decreases-loop-reader : goal.decreases-loop-reader
+decreases-loop-reader l = 1000000 - l.reader.number

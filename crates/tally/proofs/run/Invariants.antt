@@ -1,9 +1,8 @@
-use Rattle.std.proofs.Common.{◌-◌}
-use Rattle.tally.proofs.Going.{ScriptGoing}
+use Rattle.std.proofs.Common.{◌-◌, ◌≤◌}
 use Rattle.tally.proofs.run.Given as goal
 
-abbrev pub invariant-loop-place : goal.invariant-loop-place
-invariant-loop-place g l = ScriptGoing l.calls l.answers l.place
+abbrev pub invariant-loop-count : goal.invariant-loop-count
+invariant-loop-count g l = (l.closed ≤ l.reader.number) × (l.reader.number ≤ 1000000)
 
-abbrev pub decreases-loop-place : goal.decreases-loop-place
-decreases-loop-place g l = 1000000 - l.place.lines
+abbrev pub decreases-loop-count : goal.decreases-loop-count
+decreases-loop-count g l = 1000000 - l.reader.number

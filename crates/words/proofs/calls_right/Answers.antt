@@ -1,21 +1,17 @@
-use Rattle.std.proofs.Common.{refl, sym, ap, ◌∙◌, arith}
-use Rattle.words.specs.Words.{is_some}
-use Rattle.words.proofs.Listing.{passed_more, passed_all, too_many, stops_short, stops_bad, says-no, says-yes}
+use Rattle.std.proofs.Common.{rules, ◌≡◌, ◌≤◌, ◌%◌, length, arith}
+use Rattle.std.proofs.lemmas.Bool.Decides.{nat_tests}
+use Rattle.std.specs.Slice.Iter.{chunks_exact_rest, chunks_exact_size}
+use Rattle.words.proofs.Listing.{too_many, not_by_four}
+use Rattle.words.proofs.Chunks.{decided}
 use Rattle.words.proofs.calls_right.Goals as goal
+use Rattle.words.proofs.calls_right.Goals.{then-calls-le-WORDS_MOST, else-calls-le-WORDS_MOST}
 
-pub returns-then-calls-gt-WORDS_MOST : goal.returns-then-calls-gt-WORDS_MOST
-returns-then-calls-gt-WORDS_MOST c = says-no _ _ _ refl (too_many _ _ c.if-calls-gt-WORDS_MOST.true)
+pub returns-then-calls-eq0 : goal.returns-then-calls-eq0
+returns-then-calls-eq0 c =
+    let e = c.chunks_exact.ensures in
+    let few : length c.args.calls.now ≤ 1024 = elim c.if-calls-le-WORDS_MOST.branch [ then-calls-le-WORDS_MOST w ↦ omega arith | else-calls-le-WORDS_MOST w ↦ absurd (grind (arith, nat_tests)) ] in
+    let whole : length c.args.calls.now % 4 ≡ 0 = elim c.if-calls-le-WORDS_MOST.branch [ then-calls-le-WORDS_MOST w ↦ grind (arith, nat_tests) | else-calls-le-WORDS_MOST w ↦ absurd (grind (arith, nat_tests)) ] in
+    decided _ _ c.args.m c.args.calls.now (λ x b q k. search rules) chunks_exact_size chunks_exact_rest c.chunks_exact.result _ e.runs e.size e.rest c.all.ensures.runs few whole
 
-pub returns-then-calls-i-lt4 : goal.returns-then-calls-i-lt4
-returns-then-calls-i-lt4 c = says-no _ _ _ refl (stops_short _ _ _ c.if-calls-gt-WORDS_MOST.false c.loop-i-test.true c.if-calls-i-lt4.true c.loop-i.invariant)
-
-pub loop-i-preserved : goal.loop-i-preserved
-loop-i-preserved c = passed_more _ _ _ (omega arith) (sym (ap is_some c.call_at.ensures) ∙ sym c.is_call.ensures ∙ c.if-is_call.true) c.loop-i.invariant
-
-pub returns-in-loop-i : goal.returns-in-loop-i
-returns-in-loop-i c =
-    says-no _ _ _ refl
-    (stops_bad _ _ _ c.if-calls-gt-WORDS_MOST.false (omega arith) (sym (ap is_some c.call_at.ensures) ∙ sym c.is_call.ensures ∙ c.if-is_call.false) c.loop-i.invariant)
-
-pub returns : goal.returns
-returns c = says-yes _ _ _ refl (passed_all _ _ _ c.if-calls-gt-WORDS_MOST.false c.loop-i-test.false c.loop-i.invariant)
+pub returns-else-calls-eq0 : goal.returns-else-calls-eq0
+returns-else-calls-eq0 c = elim c.if-calls-le-WORDS_MOST.branch [ then-calls-le-WORDS_MOST w ↦ not_by_four _ _ _ c.if-calls-eq0.false (grind (arith, nat_tests)) | else-calls-le-WORDS_MOST w ↦ too_many _ _ _ c.if-calls-eq0.false w.if-calls-le-WORDS_MOST.false ]

@@ -1,2 +1,0 @@
--- the laws that belong to no one function
-pub mod Signed

@@ -1,0 +1,2 @@
+-- the definitions that the contracts of cases cite
+pub mod Reading

@@ -1,0 +1,166 @@
+// The eight rows: their names, what is set in them and printed, and the entry points run on them.
+use crate::read::Left;
+use crate::row::Row;
+use crate::show;
+use heap::{Fields, Rows, Tables};
+use rules::{Head, Outcome};
+use std::io;
+use std::io::Write;
+
+// A row has room for a heap of one cell too many.
+const WORDS_MOST: usize = 2050;
+
+// The heap's entry points.
+#[derive(Clone, Copy)]
+pub(crate) enum Entry {
+    Fresh,
+    Audit,
+    Batch,
+}
+
+// The rows' names.
+#[derive(Clone, Copy)]
+pub(crate) enum Name {
+    Kinds,
+    Values,
+    Variables,
+    Zct,
+    Mrt,
+    Counts,
+    Log,
+    Work,
+}
+
+impl Name {
+    const ALL: [Name; 8] = [
+        Name::Kinds,
+        Name::Values,
+        Name::Variables,
+        Name::Zct,
+        Name::Mrt,
+        Name::Counts,
+        Name::Log,
+        Name::Work,
+    ];
+
+    fn text(self) -> &'static [u8] {
+        match self {
+            Name::Kinds => b"kinds",
+            Name::Values => b"values",
+            Name::Variables => b"variables",
+            Name::Zct => b"zct",
+            Name::Mrt => b"mrt",
+            Name::Counts => b"counts",
+            Name::Log => b"log",
+            Name::Work => b"work",
+        }
+    }
+
+    // The row that a name is.
+    pub(crate) fn of(text: &[u8]) -> Option<Name> {
+        Name::ALL.into_iter().find(|name| name.text() == text)
+    }
+}
+
+#[derive(Drop)]
+pub(crate) struct Store {
+    kinds: Row<u8, WORDS_MOST>,
+    values: Row<i32, WORDS_MOST>,
+    variables: Row<i32, WORDS_MOST>,
+    zct: Row<u32, WORDS_MOST>,
+    mrt: Row<u32, WORDS_MOST>,
+    counts: Row<u32, WORDS_MOST>,
+    log: Row<u32, WORDS_MOST>,
+    work: Row<u32, WORDS_MOST>,
+}
+
+impl Store {
+    // Rows of no length.
+    pub(crate) fn new() -> Store {
+        Store {
+            kinds: Row::new(0, 0),
+            values: Row::new(0, 0),
+            variables: Row::new(0, 0),
+            zct: Row::new(0, 0),
+            mrt: Row::new(0, 0),
+            counts: Row::new(0, 0),
+            log: Row::new(0, 0),
+            work: Row::new(0, 0),
+        }
+    }
+
+    // A row is of this length, and all zeros.
+    pub(crate) fn renew(&mut self, name: Name, length: usize) {
+        match name {
+            Name::Kinds => self.kinds = Row::new(0, length),
+            Name::Values => self.values = Row::new(0, length),
+            Name::Variables => self.variables = Row::new(0, length),
+            Name::Zct => self.zct = Row::new(0, length),
+            Name::Mrt => self.mrt = Row::new(0, length),
+            Name::Counts => self.counts = Row::new(0, length),
+            Name::Log => self.log = Row::new(0, length),
+            Name::Work => self.work = Row::new(0, length),
+        }
+    }
+
+    // The word at place i of a row is the number that is left of the line; None where there is no such place.
+    pub(crate) fn set(&mut self, name: Name, i: usize, mut left: Left) -> Option<()> {
+        match name {
+            Name::Kinds => self.kinds.set(i, left.byte()),
+            Name::Values => self.values.set(i, left.word()),
+            Name::Variables => self.variables.set(i, left.word()),
+            Name::Zct => self.zct.set(i, left.unsigned()),
+            Name::Mrt => self.mrt.set(i, left.unsigned()),
+            Name::Counts => self.counts.set(i, left.unsigned()),
+            Name::Log => self.log.set(i, left.unsigned()),
+            Name::Work => self.work.set(i, left.unsigned()),
+        }
+    }
+
+    // A line for each row.
+    pub(crate) fn show<W: Write>(&self, out: &mut W) -> io::Result<()> {
+        for name in Name::ALL {
+            let text = name.text();
+            match name {
+                Name::Kinds => show::row(out, text, self.kinds.shown())?,
+                Name::Values => show::row(out, text, self.values.shown())?,
+                Name::Variables => show::row(out, text, self.variables.shown())?,
+                Name::Zct => show::row(out, text, self.zct.shown())?,
+                Name::Mrt => show::row(out, text, self.mrt.shown())?,
+                Name::Counts => show::row(out, text, self.counts.shown())?,
+                Name::Log => show::row(out, text, self.log.shown())?,
+                Name::Work => show::row(out, text, self.work.shown())?,
+            }
+        }
+        Ok(())
+    }
+
+    // An entry point on the rows, each lent at its length.
+    pub(crate) fn enter(
+        &mut self,
+        entry: Entry,
+        head: Head,
+        calls: &[i32],
+        answers: &mut [i32],
+    ) -> Outcome {
+        let mut rows = Rows {
+            fields: Fields {
+                kinds: self.kinds.lent(),
+                values: self.values.lent(),
+            },
+            variables: self.variables.lent(),
+            tables: Tables {
+                zct: self.zct.lent(),
+                mrt: self.mrt.lent(),
+                counts: self.counts.lent(),
+            },
+            log: self.log.lent(),
+        };
+        let work = self.work.lent();
+        match entry {
+            Entry::Fresh => heap::fresh(head.sizes, &mut rows, work),
+            Entry::Audit => heap::audit(head, rows.view(), work),
+            Entry::Batch => heap::batch(head, &mut rows, work, calls, answers),
+        }
+    }
+}

@@ -1,0 +1,2 @@
+-- what says no to a batch
+pub mod Judging
