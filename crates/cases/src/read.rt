@@ -13,6 +13,7 @@ pub(crate) struct Left<'a> {
 
 impl<'a> Left<'a> {
     // Takes this byte; is it here?
+    // Stays: it moves on where it answers true, so its answers are no `&&`.
     pub(crate) fn take(&mut self, byte: u8) -> bool
         ensures shorter { IsTrue result → length self.new.bytes.now < length self.old.bytes.now }
         ensures on { ReadOn self.old self.new }
@@ -54,7 +55,7 @@ impl<'a> Left<'a> {
     }
 
     // Takes the digits up to the next space or line end. What is no digit, or one too many, says nothing.
-    // Stays: std's parse would refuse what is no digit; here it adds none.
+    // Stays: what is no digit adds none, as tests/model.py has it; std's parse refuses it.
     fn digits(&mut self) -> usize
         ensures { ReadOn self.old self.new }
     {

@@ -280,6 +280,7 @@ impl TryFrom<Note> for Entry {
 
     ghost try_from_gives = { λ n r. entry_from n r };
 
+    // Stays: the numbers 1, 2 and 3 are document 01's words of the log; here they become kinds.
     fn try_from(note: Note) -> Result<Entry, Note> {
         match note.kind {
             1 => Ok(Entry::Allocate(note.address)),
@@ -340,7 +341,7 @@ fn mark(row: &mut [u32], a: usize)
 }
 
 // The work row: 1 at each address that a variable holds, else 0.
-// Stays: two rows that travel together nowhere else.
+// Stays: two rows that go together nowhere else as these two alone.
 pub fn mark_held(variables: &[i32], work: &mut [u32])
     ensures { Marks (length work.old) work.new (map held_of variables.now) }
 {

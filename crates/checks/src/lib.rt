@@ -265,6 +265,7 @@ fn exact(c: u32, cap: usize, w: u32) -> bool
 }
 
 // Do the tables agree with the work row's counts? Both are walked in step with the address.
+// Stays: the answers from inside the loop: each is said where it is found, and two cursors go along with the address.
 pub fn compare(head: Head, view: View<'_>, work: &[u32]) -> bool
     requires work_len { length work.now ≡ head.sizes.n }
     requires tables_fit { let r = shown_in view work.now in TablesFit head r.kinds r.tables × TablesSound head r.kinds r.tables }

@@ -67,7 +67,7 @@ fn fields(s: &[u8]) -> usize
 }
 
 // The number that digits are, as far as it counts.
-// Stays: std's parse would take a plus sign, and fail above its type; here a number above any use counts as none.
+// Stays: std's parse would take a plus sign; `digits_from` of the promise takes digits alone.
 #[tactic(auto, using(crate::proofs::NumberLaws::digit_laws), unfolding(crate::specs::Number::digits_from))]
 fn digits(s: &[u8]) -> Option<usize>
     ensures { option_of result ≡ capped (digits_from 0 s.now) }

@@ -40,7 +40,7 @@ impl From<io::Error> for Stop {
 }
 
 // The rest of a line: bytes and a number.
-// Stays: by print, which says of an error too what was written; std's write! does not.
+// Stays: by print, which ends at a write that a signal cuts off, as before; std's write! would go on.
 fn end_line<W: Write, N: Integer>(out: &mut W, before: &[u8], n: N) -> io::Result<()> {
     print::number(out, before, n)?;
     print::text(out, b"\n")
