@@ -19,11 +19,7 @@ use Rattle.rules.specs.Heap.{Shape, place, field}
 use Rattle.rules.specs.Rows.{CallRows}
 use Rattle.rules.specs.Call.{var, at, want, no_of, status_of}
 use Rattle.rules.proofs.Roundtrip.{held_back}
-use Rattle.cells.specs.declared.Rows.{Rows}
-use Rattle.cells.specs.declared.View.{View}
-use Rattle.cells.specs.Lending.{call_in, seen_in, Views}
 use Rattle.cells.proofs.Storing.{read}
-use Rattle.cells.proofs.Viewing.{views-seen}
 use Rattle.before.specs.Seen.{Held, Shown, Reach, Reaches, field_below}
 
 -- a word of the row is what its variable holds, past no default
@@ -54,17 +50,17 @@ seen_below {n} {r} {s} v f S l q d = d ∙ rw (q ∙ held-is S.held v l) (go (ge
 
 -- ---- a view of the rows
 
-module _ {n : ℕ} (r : Rows) (v : View) (V : Views r v) where
+module _ {n : ℕ} {q r : CallRows} (e : q ≡ r) where
   -- shows what they show
-  pub shown-there : {s : Shape} → Shown n (call_in r) s → Shown n (seen_in v) s
-  shown-there S = rw (views-seen r v V) S
+  pub shown-there : {s : Shape} → Shown n r s → Shown n q s
+  shown-there S = rw e S
 
   -- and is as long
-  pub reach-there : {a f : ℕ} → Reach n (call_in r) a f → Reach n (seen_in v) a f
-  reach-there R = rw (views-seen r v V) R
+  pub reach-there : {a f : ℕ} → Reach n r a f → Reach n q a f
+  reach-there R = rw e R
 
-  pub reaches-there : {c : Call} → Reaches n (call_in r) c → Reaches n (seen_in v) c
-  reaches-there R = rw (views-seen r v V) R
+  pub reaches-there : {c : Call} → Reaches n r c → Reaches n q c
+  reaches-there R = rw e R
 
 -- ---- what is said first
 

@@ -170,11 +170,6 @@ module _ {s : Sizes} {r : Lent} {at : State} (c : Call) {k : ℕ} (right : (sh :
         few = omega arith;
       })
 
--- the tables' rows and the work row stay while it is done
-pub worked_in : {s : Sizes} {at st : State} {o : Stepped} {a : Result ℤ Refusal} {q : CallRows} {t t' : TableRows} {work : List ℕ} → t ≡ t'
-    → Answered s (beside t' work q) at o st a → Answered s (beside t work q) at o st a
-worked_in e A = rw e A
-
 -- ---- the call that was found
 
 pub same-call : {d : code.Option Call} {x : Call} {o : Option Call} {c : Call} → d ≡ code.Some x → option_of d ≡ o → o ≡ some c → c ≡ x
