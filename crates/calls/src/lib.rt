@@ -8,7 +8,7 @@ ghost use Rattle.rules.specs.Field.{option_of};
 ghost use Rattle.rules.specs.Heap.{Shape};
 ghost use Rattle.rules.specs.Call.{at as field_at, target, figure_of, same_cell, value};
 ghost use Rattle.rules.specs.Step.{no_cell_free, do_new, acted};
-ghost use Rattle.cells.specs.Lending.{call_in, seen_in, SameFields};
+ghost use Rattle.cells.specs.Lending.{call_in, seen_in, SameFields, LengthsStay};
 ghost use Rattle.before.specs.Seen.{Held, Shown, Reach, Reaches};
 ghost use Rattle.calls.specs.Doing.{Does, Changes, Writes, Links, Writable, Linkable, Takeable, Able};
 
@@ -81,6 +81,7 @@ fn write(
 ) -> usize
     requires { Writable v f x (call_in fields.old variables.now log.old) len }
     ensures writes { Writes v f x (call_in fields.old variables.now log.old) len (call_in fields.new variables.now log.new) result }
+    ensures lengths { LengthsStay fields.old fields.new }
     ensures same { SameFields fields.old fields.new }
 {
     let Some(a) = held(variables, v) else {
@@ -104,6 +105,7 @@ fn link(
 ) -> usize
     requires { Linkable v f w (call_in fields.old variables.now log.old) len }
     ensures links { Links v f w (call_in fields.old variables.now log.old) len (call_in fields.new variables.now log.new) result }
+    ensures lengths { LengthsStay fields.old fields.new }
     ensures same { SameFields fields.old fields.new }
 {
     let Some(b) = held(variables, w) else {
@@ -125,6 +127,7 @@ fn change(
 )
     requires { Able sizes (Do deed) (call_in fields.old variables.old log.old) at.old }
     ensures changes { Changes sizes deed (call_in fields.old variables.old log.old) at.old (call_in fields.new variables.new log.new) at.new }
+    ensures lengths { LengthsStay fields.old fields.new }
     ensures same { SameFields fields.old fields.new }
 {
     match deed {
@@ -154,6 +157,7 @@ fn take(
 ) -> Result<i32, Refusal>
     requires { Takeable sizes.n v (call_in fields.old variables.old log.old) at.old }
     ensures does { Does sizes (λ h. do_new (no_cell_free sizes h) v h) (call_in fields.old variables.old log.old) at.old (call_in fields.new variables.new log.new) at.new result }
+    ensures lengths { LengthsStay fields.old fields.new }
     ensures same { SameFields fields.old fields.new }
 {
     let a = at.first;
@@ -180,6 +184,7 @@ pub fn act(
 ) -> Result<i32, Refusal>
     requires { Able sizes call (call_in fields.old variables.old log.old) at.old × (freed ≤ 1024) }
     ensures does { Does sizes (acted sizes call freed) (call_in fields.old variables.old log.old) at.old (call_in fields.new variables.new log.new) at.new result }
+    ensures lengths { LengthsStay fields.old fields.new }
     ensures same { SameFields fields.old fields.new }
 {
     match call {

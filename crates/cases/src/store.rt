@@ -2,7 +2,7 @@
 use crate::read::Left;
 use crate::row::Row;
 use crate::show;
-use heap::{Fields, Rows, Tables};
+use heap::{Fields, Tables, View};
 use rules::{Head, Outcome};
 use std::io;
 use std::io::Write;
@@ -143,24 +143,22 @@ impl Store {
         calls: &[i32],
         answers: &mut [i32],
     ) -> Outcome {
-        let mut rows = Rows {
-            fields: Fields {
-                kinds: self.kinds.lent(),
-                values: self.values.lent(),
-            },
-            variables: self.variables.lent(),
-            tables: Tables {
-                zct: self.zct.lent(),
-                mrt: self.mrt.lent(),
-                counts: self.counts.lent(),
-            },
-            log: self.log.lent(),
+        let fields = &mut Fields {
+            kinds: self.kinds.lent(),
+            values: self.values.lent(),
         };
+        let variables = self.variables.lent();
+        let tables = &mut Tables {
+            zct: self.zct.lent(),
+            mrt: self.mrt.lent(),
+            counts: self.counts.lent(),
+        };
+        let log = self.log.lent();
         let work = self.work.lent();
         match entry {
-            Entry::Fresh => heap::fresh(head.sizes, &mut rows, work),
-            Entry::Audit => heap::audit(head, rows.view(), work),
-            Entry::Batch => heap::batch(head, &mut rows, work, calls, answers),
+            Entry::Fresh => heap::fresh(head.sizes, fields, variables, tables, log, work),
+            Entry::Audit => heap::audit(head, View::of(fields, variables, tables, log), work),
+            Entry::Batch => heap::batch(head, fields, variables, tables, log, work, calls, answers),
         }
     }
 }

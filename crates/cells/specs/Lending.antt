@@ -1,5 +1,5 @@
 -- The rows of a heap as they are lent. Assumes nothing.
-use Rattle.std.specs.Prelude.{◌≡◌, ℕ, List, ℤ}
+use Rattle.std.specs.Prelude.{◌≡◌, ℕ, List, ℤ, length}
 use Rattle.rules.specs.Rows.{HeapRows, CallRows, Lent, lent, row_lengths}
 use Rattle.rules.specs.Rows as rules
 use Rattle.tables.specs.declared.Tables.{Tables}
@@ -38,3 +38,8 @@ Views f variables t log v = (work : List ℕ) → shown_in v work ≡ lent_in f 
 -- t lends the rows that s lends: who lent them finds there what the contracts say of t
 abbrev pub SameFields : Fields → Fields → Type 0
 SameFields s t = (t.kinds.ghost_name ≡ s.kinds.ghost_name) × (t.values.ghost_name ≡ s.values.ghost_name)
+
+-- and they are as long in t as in s
+pub record LengthsStay (s t : Fields) : Type 0 where
+  pub kinds_long : length t.kinds.now ≡ length s.kinds.now
+  pub values_long : length t.values.now ≡ length s.values.now
