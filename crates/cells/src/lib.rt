@@ -99,10 +99,14 @@ impl<'a> View<'a> {
 
 // The address that a signed value is; a negative one is none, for which other is given.
 // Stays: a public promise; `address_of` of the rules gives the other number for none.
+// Stays: by a range, since `usize::try_from` takes each word of an audit apart into a sign and a size first.
 pub fn address_or(x: i32, other: usize) -> usize
     ensures { result ≡ address_of other x }
 {
-    usize::try_from(x).unwrap_or(other)
+    match x {
+        0.. => x as usize,
+        _ => other,
+    }
 }
 
 // The address that a field's value is.
@@ -212,8 +216,13 @@ impl Fields<'_> {
         ensures values { self.new.values.now ≡ map value_of (free_from 0 n) }
         ensures same { SameFields self.old self.new }
     {
+        // lent anew once: through self each store would look its row up again
+        let mut fields = Fields {
+            kinds: &mut *self.kinds,
+            values: &mut *self.values,
+        };
         for a in 0..n {
-            self.free_cell(a, a + 1);
+            fields.free_cell(a, a + 1);
         }
     }
 }

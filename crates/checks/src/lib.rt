@@ -121,7 +121,12 @@ impl Cells<'_> {
     {
         let i = 2 * a + f;
         let x = self.values[i];
-        match Kind::try_from(self.kinds.row[i]) {
+        let kind = self.kinds.row[i];
+        // first, since most words say nothing, and an audit comes to each word
+        if kind == Kind::Nothing as u8 {
+            return x == 0;
+        }
+        match Kind::try_from(kind) {
             Ok(Kind::Nothing) => x == 0,
             Ok(Kind::Figure) => true,
             Ok(Kind::Cell) => self.kinds.live(address_or(x, self.kinds.n)),
@@ -188,9 +193,8 @@ impl Cells<'_> {
         if self.kinds.row[i] != Kind::Cell as u8 {
             return None;
         }
-        usize::try_from(self.values[i])
-            .ok()
-            .filter(|b| *b < self.kinds.n)
+        let b = address_or(self.values[i], self.kinds.n);
+        (b < self.kinds.n).then_some(b)
     }
 
     // Counts the pointers to each cell into the work row.
@@ -266,6 +270,7 @@ fn exact(c: u32, cap: usize, w: u32) -> bool
 
 // Do the tables agree with the work row's counts? Both are walked in step with the address.
 // Stays: the answers from inside the loop: each is said where it is found, and two cursors go along with the address.
+// Stays: each case goes on by itself, since a turn whose cases meet again takes twice the steps.
 pub fn compare(head: Head, view: View<'_>, work: &[u32]) -> bool
     requires work_len { length work.now ≡ head.sizes.n }
     requires tables_fit { let r = shown_in view work.now in TablesFit head r.kinds r.tables × TablesSound head r.kinds r.tables }
@@ -284,12 +289,16 @@ pub fn compare(head: Head, view: View<'_>, work: &[u32]) -> bool
                 return false;
             }
             z += 1;
-        } else if stands(view.mrt, head.mrt, q, a) {
+            continue;
+        }
+        if stands(view.mrt, head.mrt, q, a) {
             if !exact(view.counts[q], head.sizes.cap, w) {
                 return false;
             }
             q += 1;
-        } else if !kinds.single(a, w) {
+            continue;
+        }
+        if !kinds.single(a, w) {
             return false;
         }
     }
