@@ -92,14 +92,22 @@ impl Kinds<'_> {
         (0..self.n).all(|a| !self.free(a) || work[a] != UNMARKED)
     }
 
+    // Is entry j of a row a cell that isn't free, and above the entry before it?
+    fn listed(self, row: &[u32], j: usize) -> bool
+        requires { j < length row.now }
+        ensures { Says result (Live self.entry.n self.entry.row.now (get_or row.now j 0) × ((i : ℕ) → i + 1 ≡ j → get_or row.now i 0 < get_or row.now j 0)) }
+    {
+        self.live(row[j] as usize) && (j == 0 || row[j - 1] < row[j])
+    }
+
     // Is a table's row as it is to be: ascending, of cells that aren't free, zeros after the used part?
     // Stays: document 01 lends a row whole; `TableRow` says what stands in its used part and after it.
+    #[tactic(auto, using(crate::proofs::Steps::listed))]
     pub fn table(self, row: &[u32], used: usize) -> bool
         requires { used ≤ length row.now }
         ensures { Says result (TableRow self.entry.n self.entry.row.now row.now used) }
     {
-        let entries = &row[..used];
-        entries.iter().all(|b| self.live(*b as usize)) && ascend(entries) && zero_from(row, used)
+        (0..used).all(|j| self.listed(row, j)) && zero_from(row, used)
     }
 }
 
@@ -223,13 +231,6 @@ pub fn all_held(zct: &[u32], used: usize, work: &[u32]) -> bool
         }
     }
     true
-}
-
-// Do the entries ascend?
-fn ascend(entries: &[u32]) -> bool
-    ensures { Says result ((j : ℕ) → j + 1 < length entries.now → get_or entries.now j 0 < get_or entries.now (j + 1) 0) }
-{
-    entries.is_sorted_by(|a, b| a < b)
 }
 
 // Is a row zero from a place on? Its words are gathered, and tested once.
