@@ -49,6 +49,7 @@ fn answer(deed: Deed, view: View<'_>, n: usize) -> i32
 }
 
 // ---- what it does
+// Stays: the rows side by side, here and below; the reason stands at `settle` of settle.
 
 // The cell that a field names.
 fn target(f: Field) -> Option<usize>

@@ -76,6 +76,7 @@ impl View<'_> {
 
 impl<'a> View<'a> {
     // The rows that are lent to be written, to be read.
+    // Stays: the rows side by side; the reason stands at `settle` of settle.
     pub fn of(
         fields: &'a Fields,
         variables: &'a [i32],
@@ -351,6 +352,7 @@ pub fn mark_held(variables: &[i32], work: &mut [u32])
 }
 
 // A fresh heap of these sizes, written into the rows.
+// Stays: the rows side by side; the reason stands at `settle` of settle.
 pub fn fresh_rows(
     fields: &mut Fields,
     variables: &mut [i32],

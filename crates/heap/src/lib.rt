@@ -16,6 +16,7 @@ use words::calls_right;
 use working::run_batch;
 
 // A fresh heap of the sizes, written into the rows: its head and a count of 0, or a head of zeros and what says no.
+// Stays: the rows side by side, here and below; the reason stands at `settle` of settle.
 pub fn fresh(
     sizes: Sizes,
     fields: &mut Fields,

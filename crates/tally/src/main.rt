@@ -133,6 +133,7 @@ fn gather(
 }
 
 // A script after its heap line, on rows of the heap's lengths: its batches, and the lines at the end.
+// Stays: the rows side by side, as heap takes them.
 fn run<W: Write>(
     out: &mut W,
     mut reader: Reader,

@@ -35,6 +35,7 @@ fn settles_first(call: Call, need: usize, sizes: Sizes, at: State) -> bool
 
 // The call at the start of these words is worked: refused by its check, or settled first where it wants that, and then done.
 // (A batch's words were found right before.)
+// Stays: the rows side by side, here and below; the reason stands at `settle` of settle.
 fn step(
     words: &[i32],
     fields: &mut Fields,
