@@ -1,6 +1,6 @@
 -- Laws of what a call sees: what a variable holds, a field of its cell. Assumes nothing.
 use mathlib.Core.Path.{◌≡◌, refl, ap, ◌∙◌}
-use mathlib.Core.Bool.{Bool, true, false, cond, ◌&&◌}
+use mathlib.Core.Bool.{Bool, true, false, cond}
 use mathlib.Core.Option.{Option, none, some}
 use mathlib.Core.List.{List, [], ◌∷◌, map}
 use Prim.Native.Nat.{ℕ, zero, suc, ◌+◌, ◌*◌, ◌<◌}
@@ -86,7 +86,3 @@ first_no e false k h = h
 pub first_yes : (p : Bool) (j k : ℕ) → 0 ≡ want p 11 → j ≡ k → j ≡ cond p k 11
 first_yes true j k h e = e
 first_yes false j k h e = absurd (omega arith)
-
-pub both_first : (p q : Bool) → want (p && q) 11 ≡ cond p (want q 11) 11
-both_first true q = refl
-both_first false q = refl
