@@ -1,6 +1,6 @@
--- What the work row's marks showed, said of the rows themselves. Assumes nothing.
+-- What the audit's parts lean on, and what the work row showed, said of the rows themselves. Assumes nothing.
 use Prim.Native.Nat.{ℕ, ◌<◌}
-use mathlib.Core.Path.{◌≡◌, refl, subst}
+use mathlib.Core.Path.{◌≡◌, refl, sym, ◌∙◌, subst}
 use mathlib.Core.Bool.{Bool, true, false, cond}
 use mathlib.Core.List.{List, map}
 use native.Mathlib.Omega.{arith}
@@ -8,12 +8,37 @@ use lib.IntN.{ℤ}
 use lib.ListN.{length, get_or, length-map}
 use Rattle.rules.specs.declared.Head.{Head}
 use Rattle.rules.specs.Head.{Says, Within}
-use Rattle.rules.specs.Rows.{RowLengths}
+use Rattle.rules.specs.Rows.{TableRows, Lent, RowLengths}
 use Rattle.rules.specs.Field.{held_of}
-use Rattle.rules.specs.Sound.{held_among, ZctHeld, Lengths}
+use Rattle.rules.specs.Sound.{TablesSound, held_among, Agree, ZctHeld, Sized, Lengths}
 use Rattle.rules.proofs.Positions.{holds-held}
 use Rattle.cells.specs.Marks.{Marks}
-use Rattle.checks.specs.Counts.{AllMarked, EntriesBelow, Addressed}
+use Rattle.checks.specs.CellRows.{CellRows}
+use Rattle.checks.specs.Counts.{TablesFit, AllMarked, EntriesBelow, Addressed}
+
+-- ---- what the lengths give
+
+module _ {h : Head} {r : Lent} (z : Sized h r) where
+  pub cells-long : CellRows h.sizes.n r.kinds r.values
+  cells-long = record { some = z.within.limits.n_least; most = z.within.limits.n_most; kinds = z.lengths.for_kinds; values = z.lengths.for_values }
+
+  pub tables-fit : TablesFit h r.kinds r.tables
+  tables-fit =
+      let w = z.within in
+      let l = z.lengths in
+      record { most = w.limits.n_most; kinds_long = l.for_kinds; zct_fits = omega arith; mrt_fits = omega arith; counts_fits = omega arith }
+
+-- ---- what the work row showed
+
+-- two counts that are the same of every cell
+pub agree_as : {h : Head} {ks : List ℕ} {t : TableRows} {count count' : ℕ → ℕ} → TablesSound h ks t → ((a : ℕ) → a < h.sizes.n → count a ≡ count' a) → Agree h ks t count → Agree h ks t count'
+agree_as {t = t} T e A =
+    record {
+      apart = A.apart;
+      one = λ a l o m. sym (e a l.cell) ∙ A.one a l o m;
+      none = λ j k. sym (e (get_or t.zct j 0) (T.zct_row.live j k).cell) ∙ A.none j k;
+      exact = λ j k l. sym (e (get_or t.mrt j 0) (T.mrt_row.live j k).cell) ∙ A.exact j k l;
+    }
 
 module _ (n : ℕ) (xs : List ℤ) (zs : List ℕ) (used : ℕ) (work : List ℕ) (W : EntriesBelow zs used n) (N : Addressed xs) (M : Marks n work (map held_of xs)) where
   marked-at : (b : ℕ) → b < n → get_or work b 0 ≡ cond (held_among n xs b (length xs)) 1 0

@@ -57,8 +57,10 @@ fn check_both(view: View<'_>, v: usize, w: usize) -> Result<(), Refusal>
     requires { (v < length view.variables.now) × (w < length view.variables.now) }
     ensures { (n : ℕ) (hs : List (Option ℕ)) → Held n view.entry.variables.now hs → status_of result ≡ want (is_held (get_or hs v none) && is_held (get_or hs w none)) 11 }
 {
-    check_held(view, v)?;
-    check_held(view, w)
+    match held(view.variables, v) {
+        Some(_) => check_held(view, w),
+        None => Err(Refusal::NothingHeld),
+    }
 }
 
 // A follow wants a cell.

@@ -5,7 +5,7 @@ use mathlib.Core.Option.{Option, none, some}
 use mathlib.Core.List.{List, [], ◌∷◌, ◌++◌, append_assoc}
 use Prim.Native.Nat.{ℕ, ◌+◌, ◌*◌, ◌≤◌, ◌<◌}
 use native.Mathlib.Omega.{arith}
-use borrow.Author.Tests.{eq-eqb, ne_eqb}
+use borrow.Author.Tests.{le-ltb, eq-eqb, ne_eqb}
 use lib.IntN.{ℤ, pos}
 use mir.Val.{bool_byte}
 use lib.ListN.{length, get_or, set}
@@ -17,9 +17,9 @@ use Rattle.rules.specs.declared.Refusal.TheVariants.{NoneFree}
 use Rattle.rules.specs.declared.State.{State}
 use Rattle.rules.specs.declared.Sizes.{Sizes}
 use Rattle.std.proofs.Common.{Ok, Err}
-use Rattle.rules.specs.Field.{variable_of, held_of, field_of, kind_of, value_of}
+use Rattle.rules.specs.Field.{address_of, variable_of, field_of, kind_of, value_of, held_of}
 use Rattle.rules.specs.Heap.{Transaction, allocates, creates, Shape, Heap, place, field}
-use Rattle.rules.specs.Call.{drops, var, at, write, hold, to_cell, target, makes, value}
+use Rattle.rules.specs.Call.{drops, var, at, write, hold, to_cell, target, makes, same_cell, value}
 use Rattle.rules.specs.Step.{no_cell_free, do_new, take_cell}
 use Rattle.rules.specs.Rows.{CallRows, Lent}
 use Rattle.rules.specs.Whole.{Inside, Cells, Logged, Whole}
@@ -30,7 +30,8 @@ use Rattle.cells.proofs.Storing.{inside-more, cell-lengths, read, read_inside, s
 use Rattle.cells.proofs.Logging.{logged-same}
 use Rattle.before.specs.Seen.{Held, Shown}
 use Rattle.calls.specs.Doing.{Did, Does, Wrote, Writes, Writable}
-use Rattle.before.proofs.Seeing.{word-is, held-is}
+use Rattle.before.proofs.Seeing.{word-is, held-is, held_none}
+use Rattle.cells.proofs.Marking.{held_as}
 
 -- ---- what it answers
 
@@ -97,6 +98,9 @@ module _ {n : ℕ} {r : CallRows} {s : Shape} (v f : ℕ) {o : Option ℕ} (S : 
 
   pub followed : {vs' : List ℤ} (w : ℕ) → vs' ≡ set r.variables w (variable_of o) → Held n vs' (set s.variables w (target (at s v f)))
   followed w q = held-set w (target (at s v f)) S.held (target-inside n (at s v f) (at-inside v f S)) (q ∙ ap (λ (p : Option ℕ). set r.variables w (variable_of p)) e)
+
+pub no_address : (n : ℕ) → held_as n n ≡ none
+no_address n = rw (le-ltb n n (omega arith))
 
 -- ---- a field that is written
 
@@ -166,6 +170,12 @@ module _ {n : ℕ} {vs : List ℤ} (s : Shape) (H : Held n vs s.variables) (v f 
         shown = record { cells = W.shown.cells; held = W.shown.held };
         logged = rw (held-some w H l e, ← append_assoc) (more n (ts ++ drops (at s v f)) W.logged (H.inside w b (held-some w H l e)));
       })
+
+-- ---- two variables
+
+pub same_none : {n : ℕ} {vs : List ℤ} {hs : List (Option ℕ)} (v w : ℕ) {a : ℕ} → Held n vs hs → v < length vs → a ≡ address_of n (get_or vs v (pos 0)) → n ≤ a
+    → pos 0 ≡ cond (same_cell (get_or hs v none) (get_or hs w none)) (pos 1) (pos 0)
+same_none v w H l e h = rw (held_none H v l e h)
 
 -- ---- the first free cell
 

@@ -11,7 +11,7 @@ use Rattle.rules.specs.declared.Field.TheVariants.{Nothing, Figure, Cell}
 use Rattle.rules.specs.declared.Deed.{Deed}
 use Rattle.rules.specs.declared.Deed.TheVariants.{Copy, Clear, Link, Put, Blank, Follow, Read, Same}
 use Rattle.rules.specs.declared.Call.{Call}
-use Rattle.rules.specs.declared.Call.TheVariants.{Do, Settle}
+use Rattle.rules.specs.declared.Call.TheVariants.{New, Do, Settle}
 use Rattle.rules.specs.declared.State.{State}
 use Rattle.rules.specs.declared.Sizes.{Sizes}
 use Rattle.rules.specs.Field.{held_of, variable_of}
@@ -21,10 +21,11 @@ use Rattle.rules.specs.Step.{needs, do_deed, acted}
 use Rattle.rules.specs.Rows.{TableRows, CallRows, Lent, beside}
 use Rattle.rules.specs.Whole.{Logged, Whole}
 use Rattle.rules.proofs.Calls.{two_11}
+use Rattle.cells.proofs.Storing.{cell-lengths}
 use Rattle.cells.specs.Leaves.{Near}
 use Rattle.cells.proofs.Logging.{logged-same}
 use Rattle.before.specs.Seen.{Shown, Reach, Reaches}
-use Rattle.calls.specs.Doing.{Did, Writes, Links, Writable, Linkable, Able}
+use Rattle.calls.specs.Doing.{Did, Writes, Links, Writable, Linkable, Takeable, Able}
 use Rattle.calls.proofs.Acting.{held-some, copied, cleared, near-followed, followed}
 
 -- ---- link's two steps
@@ -76,6 +77,16 @@ pub shown_of : {s : Sizes} {r : Lent} {st : State} {h : Heap} → Whole s r st h
 shown_of W = record { cells = W.rows.cells; held = record { are = W.variables_are; inside = W.held_inside } }
 
 module _ {s : Sizes} {r : CallRows} {st : State} where
+  pub can_take : {v : ℕ} → Able s (New v) r st → Takeable s.n v r st
+  can_take A =
+      let l = cell-lengths A.whole.rows.cells in
+      record { most = A.whole.rows.most; within = A.whole.rows.within; kinds_long = l.0; values_long = l.1; v_below = A.fits; room = A.room }
+
+  pub can_reach : {c : Call} (v f : ℕ) → Able s c r st → v < length r.variables → f < 2 → Reach s.n r v f
+  can_reach v f A p q =
+      let l = cell-lengths A.whole.rows.cells in
+      record { kinds_long = l.0; values_long = l.1; v_below = p; f_below = q }
+
   pub can_link : {v f w : ℕ} → Able s (Do (Link v f w)) r st → Linkable v f w r st.len
   unfolding refuses logs
   can_link {v} {f} {w} A =

@@ -8,13 +8,14 @@ ghost use Rattle.rules.specs.Field.{option_of};
 ghost use Rattle.rules.specs.Heap.{Shape};
 ghost use Rattle.rules.specs.Call.{at as field_at, target, figure_of, same_cell, value};
 ghost use Rattle.rules.specs.Step.{no_cell_free, do_new, acted};
-ghost use Rattle.cells.specs.Lending.{call_in, seen_in, SameRows, RestStays};
+ghost use Rattle.cells.specs.Lending.{call_in, seen_in, SameFields, LengthsStay};
 ghost use Rattle.before.specs.Seen.{Held, Shown, Reach, Reaches};
 ghost use Rattle.calls.specs.Doing.{Does, Changes, Writes, Links, Writable, Linkable, Takeable, Able};
 
 use before::field_of;
-use cells::{Entry, Rows, View, add_entry, held, hold, log_old, value_of};
+use cells::{Entry, Fields, View, add_entry, held, hold, log_old, value_of};
 use rules::{Call, Deed, Field, Refusal, Sizes, State};
+use tables::Tables;
 
 // ---- what it answers
 
@@ -48,6 +49,7 @@ fn answer(deed: Deed, view: View<'_>, n: usize) -> i32
 }
 
 // ---- what it does
+// Stays: the rows side by side, here and below; the reason stands at `settle` of settle.
 
 // The cell that a field names.
 fn target(f: Field) -> Option<usize>
@@ -69,92 +71,128 @@ fn follow(view: View<'_>, n: usize, v: usize, f: usize) -> Option<usize>
 }
 
 // Field f of v's cell becomes x: a destroy is logged for its old target. The log's length afterwards.
-fn write(rows: &mut Rows, len: usize, v: usize, f: usize, x: Field) -> usize
-    requires { Writable v f x (call_in rows.old) len }
-    ensures writes { Writes v f x (call_in rows.old) len (call_in rows.new) result }
-    ensures rest { RestStays rows.old rows.new }
-    ensures same { SameRows rows.old rows.new }
+fn write(
+    fields: &mut Fields,
+    variables: &[i32],
+    log: &mut [u32],
+    len: usize,
+    v: usize,
+    f: usize,
+    x: Field,
+) -> usize
+    requires { Writable v f x (call_in fields.old variables.now log.old) len }
+    ensures writes { Writes v f x (call_in fields.old variables.now log.old) len (call_in fields.new variables.now log.new) result }
+    ensures lengths { LengthsStay fields.old fields.new }
+    ensures same { SameFields fields.old fields.new }
 {
-    let Some(a) = rows.held(v) else {
+    let Some(a) = held(variables, v) else {
         return len;
     };
     let i = 2 * a + f;
-    let old = rows.fields.field_at(i);
-    rows.fields.put_field(i, x);
-    log_old(rows.log, len, old)
+    let old = fields.field_at(i);
+    fields.put_field(i, x);
+    log_old(log, len, old)
 }
 
 // Field f of v's cell becomes w's cell: a destroy for its old target is logged, then a create. The log's length afterwards.
-fn link(rows: &mut Rows, len: usize, v: usize, f: usize, w: usize) -> usize
-    requires { Linkable v f w (call_in rows.old) len }
-    ensures links { Links v f w (call_in rows.old) len (call_in rows.new) result }
-    ensures rest { RestStays rows.old rows.new }
-    ensures same { SameRows rows.old rows.new }
+fn link(
+    fields: &mut Fields,
+    variables: &[i32],
+    log: &mut [u32],
+    len: usize,
+    v: usize,
+    f: usize,
+    w: usize,
+) -> usize
+    requires { Linkable v f w (call_in fields.old variables.now log.old) len }
+    ensures links { Links v f w (call_in fields.old variables.now log.old) len (call_in fields.new variables.now log.new) result }
+    ensures lengths { LengthsStay fields.old fields.new }
+    ensures same { SameFields fields.old fields.new }
 {
-    let Some(b) = rows.held(w) else {
+    let Some(b) = held(variables, w) else {
         unreachable!()
     };
-    let logged = write(rows, len, v, f, Field::Cell(b));
-    add_entry(rows.log, logged, Entry::Create(b))
+    let logged = write(fields, variables, log, len, v, f, Field::Cell(b));
+    add_entry(log, logged, Entry::Create(b))
 }
 
 // A deed does what it says: it passed its check, and its entries have room in the log.
-fn change(deed: Deed, rows: &mut Rows, sizes: Sizes, at: &mut State)
-    requires { Able sizes (Do deed) (call_in rows.old) at.old }
-    ensures changes { Changes sizes deed (call_in rows.old) at.old (call_in rows.new) at.new }
-    ensures rest { RestStays rows.old rows.new }
-    ensures same { SameRows rows.old rows.new }
+fn change(
+    deed: Deed,
+    fields: &mut Fields,
+    variables: &mut [i32],
+    tables: &Tables,
+    log: &mut [u32],
+    sizes: Sizes,
+    at: &mut State,
+)
+    requires { Able sizes (Do deed) (call_in fields.old variables.old log.old) at.old }
+    ensures changes { Changes sizes deed (call_in fields.old variables.old log.old) at.old (call_in fields.new variables.new log.new) at.new }
+    ensures lengths { LengthsStay fields.old fields.new }
+    ensures same { SameFields fields.old fields.new }
 {
     match deed {
-        Deed::Copy(v, w) => rows.variables[v] = rows.variables[w],
-        Deed::Clear(v) => hold(rows.variables, v, None),
-        Deed::Link(v, f, w) => at.len = link(rows, at.len, v, f, w),
-        Deed::Put(v, f, x) => at.len = write(rows, at.len, v, f, Field::Figure(x)),
-        Deed::Blank(v, f) => at.len = write(rows, at.len, v, f, Field::Nothing),
+        Deed::Copy(v, w) => variables[v] = variables[w],
+        Deed::Clear(v) => hold(variables, v, None),
+        Deed::Link(v, f, w) => at.len = link(fields, variables, log, at.len, v, f, w),
+        Deed::Put(v, f, x) => {
+            at.len = write(fields, variables, log, at.len, v, f, Field::Figure(x))
+        }
+        Deed::Blank(v, f) => at.len = write(fields, variables, log, at.len, v, f, Field::Nothing),
         Deed::Follow(v, f, w) => {
-            let a = follow(rows.view(), sizes.n, v, f);
-            hold(rows.variables, w, a);
+            let a = follow(View::of(fields, variables, tables, log), sizes.n, v, f);
+            hold(variables, w, a);
         }
         Deed::Read(_, _) | Deed::Same(_, _) => {}
     }
 }
 
 // The first free cell is taken, both fields nothing: v holds it, an allocate is logged. 14 where no cell is free.
-fn take(rows: &mut Rows, sizes: Sizes, at: &mut State, v: usize) -> Result<i32, Refusal>
-    requires { Takeable sizes.n v (call_in rows.old) at.old }
-    ensures does { Does sizes (λ h. do_new (no_cell_free sizes h) v h) (call_in rows.old) at.old (call_in rows.new) at.new result }
-    ensures rest { RestStays rows.old rows.new }
-    ensures same { SameRows rows.old rows.new }
+fn take(
+    fields: &mut Fields,
+    variables: &mut [i32],
+    log: &mut [u32],
+    sizes: Sizes,
+    at: &mut State,
+    v: usize,
+) -> Result<i32, Refusal>
+    requires { Takeable sizes.n v (call_in fields.old variables.old log.old) at.old }
+    ensures does { Does sizes (λ h. do_new (no_cell_free sizes h) v h) (call_in fields.old variables.old log.old) at.old (call_in fields.new variables.new log.new) at.new result }
+    ensures lengths { LengthsStay fields.old fields.new }
+    ensures same { SameFields fields.old fields.new }
 {
     let a = at.first;
     // Stays: n ends the free list, in document 01.
     if a == sizes.n {
         return Err(Refusal::NoneFree);
     }
-    at.first = rows.fields.take_free(a);
-    hold(rows.variables, v, Some(a));
-    at.len = add_entry(rows.log, at.len, Entry::Allocate(a));
+    at.first = fields.take_free(a);
+    hold(variables, v, Some(a));
+    at.len = add_entry(log, at.len, Entry::Allocate(a));
     Ok(0)
 }
 
 // What a call does, after the settle before it, which freed so many cells.
 pub fn act(
     call: Call,
-    rows: &mut Rows,
+    fields: &mut Fields,
+    variables: &mut [i32],
+    tables: &Tables,
+    log: &mut [u32],
     sizes: Sizes,
     at: &mut State,
     freed: usize,
 ) -> Result<i32, Refusal>
-    requires { Able sizes call (call_in rows.old) at.old × (freed ≤ 1024) }
-    ensures does { Does sizes (acted sizes call freed) (call_in rows.old) at.old (call_in rows.new) at.new result }
-    ensures rest { RestStays rows.old rows.new }
-    ensures same { SameRows rows.old rows.new }
+    requires { Able sizes call (call_in fields.old variables.old log.old) at.old × (freed ≤ 1024) }
+    ensures does { Does sizes (acted sizes call freed) (call_in fields.old variables.old log.old) at.old (call_in fields.new variables.new log.new) at.new result }
+    ensures lengths { LengthsStay fields.old fields.new }
+    ensures same { SameFields fields.old fields.new }
 {
     match call {
-        Call::New(v) => take(rows, sizes, at, v),
+        Call::New(v) => take(fields, variables, log, sizes, at, v),
         Call::Do(deed) => {
-            let value = answer(deed, rows.view(), sizes.n);
-            change(deed, rows, sizes, at);
+            let value = answer(deed, View::of(fields, variables, &*tables, log), sizes.n);
+            change(deed, fields, variables, tables, log, sizes, at);
             Ok(value)
         }
         Call::Settle => Ok(value_of(freed)),

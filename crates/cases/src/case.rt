@@ -84,7 +84,7 @@ impl Case {
         // Stays: each turn takes its part off the line's front: it counts no index.
         while left.take(b' ') {
             let name = Name::of(left.name())?;
-            store.renew(name, left.setting()?);
+            store.resize(name, left.setting()?);
         }
         self.store = store;
         Some(())
@@ -107,7 +107,7 @@ impl Case {
             self.calls = Row::new(0, 0);
         }
         // Stays: each turn takes its part off the line's front: it counts no index.
-        while left.take(b' ') {
+        while self.calls.has_room() && left.take(b' ') {
             self.calls.push(left.word());
         }
         Some(())

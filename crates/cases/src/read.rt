@@ -18,32 +18,27 @@ impl<'a> Left<'a> {
         ensures shorter { IsTrue result → length self.new.bytes.now < length self.old.bytes.now }
         ensures on { ReadOn self.old self.new }
     {
-        let Some(rest) = self.bytes.strip_prefix(&[byte]) else {
-            return false;
-        };
-        self.bytes = rest;
-        true
-    }
-
-    // Takes the bytes before the first that is less than this.
-    fn take_from(&mut self, least: u8) -> &'a [u8]
-        ensures { ReadOn self.old self.new }
-    {
-        let end = self
-            .bytes
-            .iter()
-            .position(|byte| *byte < least)
-            .unwrap_or(self.bytes.len());
-        let (taken, rest) = self.bytes.split_at(end);
-        self.bytes = rest;
-        taken
+        match self.bytes.split_first() {
+            Some((first, rest)) if *first == byte => {
+                self.bytes = rest;
+                true
+            }
+            _ => false,
+        }
     }
 
     // Takes a name, which is made of letters.
     pub(crate) fn name(&mut self) -> &'a [u8]
         ensures { ReadOn self.old self.new }
     {
-        self.take_from(b'a')
+        let end = self
+            .bytes
+            .iter()
+            .position(|byte| *byte < b'a')
+            .unwrap_or(self.bytes.len());
+        let (taken, rest) = self.bytes.split_at(end);
+        self.bytes = rest;
+        taken
     }
 
     // Takes `=` and a minus, where they are here; is there a minus?
@@ -60,10 +55,14 @@ impl<'a> Left<'a> {
         ensures { ReadOn self.old self.new }
     {
         let mut size = 0;
-        for byte in self.take_from(b' ' + 1) {
+        // Stays: each turn takes its byte off the line's front: it counts no index.
+        while let Some((byte, rest)) = self.bytes.split_first()
+            && b' ' < *byte
+        {
             if byte.is_ascii_digit() && size <= SIZE_MOST {
                 size = 10 * size + usize::from(*byte - b'0');
             }
+            self.bytes = rest;
         }
         size
     }

@@ -36,6 +36,16 @@ impl<T: Copy, const N: usize> Row<T, N> {
         Some(())
     }
 
+    // The length becomes this, or as long as there is room; the words stay.
+    pub(crate) fn resize(&mut self, length: usize) {
+        self.used = length.min(N);
+    }
+
+    // Is there room for one word more?
+    pub(crate) fn has_room(&self) -> bool {
+        self.used < N
+    }
+
     // One word more, if there is room.
     pub(crate) fn push(&mut self, x: T) {
         if self.used < N {

@@ -2,7 +2,7 @@
 use crate::read::Left;
 use crate::row::Row;
 use crate::show;
-use heap::{Fields, Rows, Tables};
+use heap::{Fields, Tables, View};
 use rules::{Head, Outcome};
 use std::io;
 use std::io::Write;
@@ -58,7 +58,17 @@ impl Name {
 
     // The row that a name is.
     pub(crate) fn of(text: &[u8]) -> Option<Name> {
-        Name::ALL.into_iter().find(|name| name.text() == text)
+        match text {
+            b"kinds" => Some(Name::Kinds),
+            b"values" => Some(Name::Values),
+            b"variables" => Some(Name::Variables),
+            b"zct" => Some(Name::Zct),
+            b"mrt" => Some(Name::Mrt),
+            b"counts" => Some(Name::Counts),
+            b"log" => Some(Name::Log),
+            b"work" => Some(Name::Work),
+            _ => None,
+        }
     }
 }
 
@@ -89,17 +99,17 @@ impl Store {
         }
     }
 
-    // A row is of this length, and all zeros.
-    pub(crate) fn renew(&mut self, name: Name, length: usize) {
+    // The length of a row becomes this; its words stay.
+    pub(crate) fn resize(&mut self, name: Name, length: usize) {
         match name {
-            Name::Kinds => self.kinds = Row::new(0, length),
-            Name::Values => self.values = Row::new(0, length),
-            Name::Variables => self.variables = Row::new(0, length),
-            Name::Zct => self.zct = Row::new(0, length),
-            Name::Mrt => self.mrt = Row::new(0, length),
-            Name::Counts => self.counts = Row::new(0, length),
-            Name::Log => self.log = Row::new(0, length),
-            Name::Work => self.work = Row::new(0, length),
+            Name::Kinds => self.kinds.resize(length),
+            Name::Values => self.values.resize(length),
+            Name::Variables => self.variables.resize(length),
+            Name::Zct => self.zct.resize(length),
+            Name::Mrt => self.mrt.resize(length),
+            Name::Counts => self.counts.resize(length),
+            Name::Log => self.log.resize(length),
+            Name::Work => self.work.resize(length),
         }
     }
 
@@ -143,24 +153,22 @@ impl Store {
         calls: &[i32],
         answers: &mut [i32],
     ) -> Outcome {
-        let mut rows = Rows {
-            fields: Fields {
-                kinds: self.kinds.lent(),
-                values: self.values.lent(),
-            },
-            variables: self.variables.lent(),
-            tables: Tables {
-                zct: self.zct.lent(),
-                mrt: self.mrt.lent(),
-                counts: self.counts.lent(),
-            },
-            log: self.log.lent(),
+        let fields = &mut Fields {
+            kinds: self.kinds.lent(),
+            values: self.values.lent(),
         };
+        let variables = self.variables.lent();
+        let tables = &mut Tables {
+            zct: self.zct.lent(),
+            mrt: self.mrt.lent(),
+            counts: self.counts.lent(),
+        };
+        let log = self.log.lent();
         let work = self.work.lent();
         match entry {
-            Entry::Fresh => heap::fresh(head.sizes, &mut rows, work),
-            Entry::Audit => heap::audit(head, rows.view(), work),
-            Entry::Batch => heap::batch(head, &mut rows, work, calls, answers),
+            Entry::Fresh => heap::fresh(head.sizes, fields, variables, tables, log, work),
+            Entry::Audit => heap::audit(head, View::of(fields, variables, tables, log), work),
+            Entry::Batch => heap::batch(head, fields, variables, tables, log, work, calls, answers),
         }
     }
 }

@@ -5,4 +5,3 @@ pub mod Storing
 pub mod Logging
 pub mod Marking
 pub mod Freshness
-pub mod Viewing

@@ -12,10 +12,11 @@ ghost use Rattle.rules.specs.Step.{after, free_from, fresh};
 ghost use Rattle.rules.specs.Rows.{rows_of, lengths_of};
 ghost use Rattle.rules.specs.Sound.{Sized};
 ghost use Rattle.rules.specs.Whole.{Inside, Cells, Logged};
-ghost use Rattle.cells.specs.Lending.{Views, lent_in, SameFields, SameRows, lengths_in, shown_in};
+ghost use Rattle.cells.specs.Lending.{Views, call_in, lent_in, seen_in, SameFields, lengths_in, shown_in};
 ghost use Rattle.cells.specs.Leaves.{Near};
 ghost use Rattle.cells.specs.Log.{note_of, entry_from, logs_as, with_entry, with_old, Noted};
 ghost use Rattle.cells.specs.Free.{CellTaken, FreedTo};
+ghost use Rattle.tables.specs.Lending.{SameTables};
 ghost use Rattle.cells.specs.Marks.{Marks};
 
 use rules::{Field, Kind, Sizes};
@@ -27,15 +28,6 @@ use tables::Tables;
 pub struct Fields<'a> {
     pub kinds: &'a mut [u8],
     pub values: &'a mut [i32],
-}
-
-// The rows of a heap that are lent to be written. (The work row, which is scratch, goes beside them.)
-#[derive(Drop)]
-pub struct Rows<'a> {
-    pub fields: Fields<'a>,
-    pub variables: &'a mut [i32],
-    pub tables: Tables<'a>,
-    pub log: &'a mut [u32],
 }
 
 // The rows of a heap that are lent to be read.
@@ -82,29 +74,40 @@ impl View<'_> {
     }
 }
 
-impl Rows<'_> {
-    // The rows, to be read.
-    pub fn view(&self) -> View<'_>
-        ensures { Views self.now result }
+impl<'a> View<'a> {
+    // The rows that are lent to be written, to be read.
+    // Stays: the rows side by side; the reason stands at `settle` of settle.
+    pub fn of(
+        fields: &'a Fields,
+        variables: &'a [i32],
+        tables: &'a Tables,
+        log: &'a [u32],
+    ) -> View<'a>
+        ensures shown { Views fields.now variables.now tables.now log.now result }
+        ensures seen { seen_in result ≡ call_in fields.now variables.now log.now }
     {
         View {
-            kinds: &*self.fields.kinds,
-            values: &*self.fields.values,
-            variables: &*self.variables,
-            zct: &*self.tables.zct,
-            mrt: &*self.tables.mrt,
-            counts: &*self.tables.counts,
-            log: &*self.log,
+            kinds: &*fields.kinds,
+            values: &*fields.values,
+            variables,
+            zct: &*tables.zct,
+            mrt: &*tables.mrt,
+            counts: &*tables.counts,
+            log,
         }
     }
 }
 
 // The address that a signed value is; a negative one is none, for which other is given.
 // Stays: a public promise; `address_of` of the rules gives the other number for none.
+// Stays: by a range, since `usize::try_from` takes each word of an audit apart into a sign and a size first.
 pub fn address_or(x: i32, other: usize) -> usize
     ensures { result ≡ address_of other x }
 {
-    usize::try_from(x).unwrap_or(other)
+    match x {
+        0.. => x as usize,
+        _ => other,
+    }
 }
 
 // The address that a field's value is.
@@ -214,8 +217,13 @@ impl Fields<'_> {
         ensures values { self.new.values.now ≡ map value_of (free_from 0 n) }
         ensures same { SameFields self.old self.new }
     {
+        // lent anew once: through self each store would look its row up again
+        let mut fields = Fields {
+            kinds: &mut *self.kinds,
+            values: &mut *self.values,
+        };
         for a in 0..n {
-            self.free_cell(a, a + 1);
+            fields.free_cell(a, a + 1);
         }
     }
 }
@@ -226,16 +234,6 @@ pub fn held(variables: &[i32], v: usize) -> Option<usize>
     ensures { option_of result ≡ held_of (get_or variables.now v (pos 0)) }
 {
     usize::try_from(variables[v]).ok()
-}
-
-impl Rows<'_> {
-    // The address that variable v holds.
-    pub fn held(&self, v: usize) -> Option<usize>
-        requires { v < length self.now.variables.now }
-        ensures { option_of result ≡ held_of (get_or self.now.variables.now v (pos 0)) }
-    {
-        held(self.variables, v)
-    }
 }
 
 // Variable v holds a.
@@ -354,16 +352,24 @@ pub fn mark_held(variables: &[i32], work: &mut [u32])
 }
 
 // A fresh heap of these sizes, written into the rows.
-pub fn fresh_rows(rows: &mut Rows, work: &mut [u32], sizes: Sizes)
-    requires { Sized (fresh_head sizes) (lent_in rows.old work.old) }
-    ensures rows { lent_in rows.new work.new ≡ rows_of sizes (fresh sizes) }
-    ensures same { SameRows rows.old rows.new }
+// Stays: the rows side by side; the reason stands at `settle` of settle.
+pub fn fresh_rows(
+    fields: &mut Fields,
+    variables: &mut [i32],
+    tables: &mut Tables,
+    log: &mut [u32],
+    work: &mut [u32],
+    sizes: Sizes,
+)
+    requires { Sized (fresh_head sizes) (lent_in fields.old variables.old tables.old log.old work.old) }
+    ensures rows { lent_in fields.new variables.new tables.new log.new work.new ≡ rows_of sizes (fresh sizes) }
+    ensures same { SameFields fields.old fields.new × SameTables tables.old tables.new }
 {
-    rows.fields.free_all(sizes.n);
-    rows.variables.fill(-1);
-    rows.tables.zct.fill(0);
-    rows.tables.mrt.fill(0);
-    rows.tables.counts.fill(0);
-    rows.log.fill(0);
+    fields.free_all(sizes.n);
+    variables.fill(-1);
+    tables.zct.fill(0);
+    tables.mrt.fill(0);
+    tables.counts.fill(0);
+    log.fill(0);
     work.fill(0);
 }

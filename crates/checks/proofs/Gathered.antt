@@ -1,6 +1,6 @@
 -- Words of a row gathered by `|`: all are zero exactly when what was gathered is. Assumes nothing.
 use Prim.Native.Nat.{ℕ, ◌+◌, ◌<◌, ◌≤◌}
-use mathlib.Core.Path.{◌≡◌, sym, ◌∙◌}
+use mathlib.Core.Path.{◌≡◌, refl, sym, ◌∙◌}
 use mathlib.Core.List.{List}
 use native.Mathlib.Omega.{arith}
 use borrow.Author.Count.{below_more}
@@ -21,6 +21,9 @@ or_both a b d e = rw (d, e)
 pub record GatheredUp (row : List ℕ) (from j seen : ℕ) : Type 0 where
   pub zeros : seen ≡ 0 → (k : ℕ) → k < j → from ≤ k → get_or row k 0 ≡ 0
   pub nothing : ZeroFrom row from → seen ≡ 0
+
+pub gathered_none : (row : List ℕ) (from : ℕ) → GatheredUp row from from 0
+gathered_none row from = record { zeros = λ e k h f. absurd (omega arith); nothing = λ z. refl }
 
 pub gathered_more : (row : List ℕ) (from j seen : ℕ) → from ≤ j → j < length row → GatheredUp row from j seen → GatheredUp row from (j + 1) (bit_or seen (get_or row j 0))
 gathered_more row from j seen f h g =

@@ -1,3 +1,4 @@
+pub mod Signed
 pub mod Fields
 pub mod Walks
 pub mod Steps

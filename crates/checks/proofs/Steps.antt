@@ -28,6 +28,10 @@ module _ (n : ℕ) (ks row : List ℕ) (used : ℕ) (t : TableRow n ks row used)
       go true e s r = let w = r (ltb-true i j e) in omega arith
       go false e s r = let w = ltb-false i j e in let o : i ≡ j = omega arith in rw o s
 
+  -- each entry is a cell that isn't free, above the entry before it
+  pub listed : (j : ℕ) → j < used → Live n ks (get_or row j 0) × ((i : ℕ) → i + 1 ≡ j → get_or row i 0 < get_or row j 0)
+  listed j h = (t.live j h, λ i e. rw (← e) (t.ascending i (omega arith)))
+
   module _ (a z : ℕ) (p : WalkPlace row used a z) where
     pub in_next : At row used z a → WalkPlace row used (a + 1) (z + 1)
     in_next h =

@@ -92,14 +92,22 @@ impl Kinds<'_> {
         (0..self.n).all(|a| !self.free(a) || work[a] != UNMARKED)
     }
 
+    // Is entry j of a row a cell that isn't free, and above the entry before it?
+    fn listed(self, row: &[u32], j: usize) -> bool
+        requires { j < length row.now }
+        ensures { Says result (Live self.entry.n self.entry.row.now (get_or row.now j 0) × ((i : ℕ) → i + 1 ≡ j → get_or row.now i 0 < get_or row.now j 0)) }
+    {
+        self.live(row[j] as usize) && (j == 0 || row[j - 1] < row[j])
+    }
+
     // Is a table's row as it is to be: ascending, of cells that aren't free, zeros after the used part?
     // Stays: document 01 lends a row whole; `TableRow` says what stands in its used part and after it.
+    #[tactic(auto, using(crate::proofs::Steps::listed))]
     pub fn table(self, row: &[u32], used: usize) -> bool
         requires { used ≤ length row.now }
         ensures { Says result (TableRow self.entry.n self.entry.row.now row.now used) }
     {
-        let entries = &row[..used];
-        entries.iter().all(|b| self.live(*b as usize)) && ascend(entries) && zero_from(row, used)
+        (0..used).all(|j| self.listed(row, j)) && zero_from(row, used)
     }
 }
 
@@ -121,7 +129,12 @@ impl Cells<'_> {
     {
         let i = 2 * a + f;
         let x = self.values[i];
-        match Kind::try_from(self.kinds.row[i]) {
+        let kind = self.kinds.row[i];
+        // first, since most words say nothing, and an audit comes to each word
+        if kind == Kind::Nothing as u8 {
+            return x == 0;
+        }
+        match Kind::try_from(kind) {
             Ok(Kind::Nothing) => x == 0,
             Ok(Kind::Figure) => true,
             Ok(Kind::Cell) => self.kinds.live(address_or(x, self.kinds.n)),
@@ -188,9 +201,8 @@ impl Cells<'_> {
         if self.kinds.row[i] != Kind::Cell as u8 {
             return None;
         }
-        usize::try_from(self.values[i])
-            .ok()
-            .filter(|b| *b < self.kinds.n)
+        let b = address_or(self.values[i], self.kinds.n);
+        (b < self.kinds.n).then_some(b)
     }
 
     // Counts the pointers to each cell into the work row.
@@ -219,13 +231,6 @@ pub fn all_held(zct: &[u32], used: usize, work: &[u32]) -> bool
         }
     }
     true
-}
-
-// Do the entries ascend?
-fn ascend(entries: &[u32]) -> bool
-    ensures { Says result ((j : ℕ) → j + 1 < length entries.now → get_or entries.now j 0 < get_or entries.now (j + 1) 0) }
-{
-    entries.is_sorted_by(|a, b| a < b)
 }
 
 // Is a row zero from a place on? Its words are gathered, and tested once.
@@ -266,6 +271,7 @@ fn exact(c: u32, cap: usize, w: u32) -> bool
 
 // Do the tables agree with the work row's counts? Both are walked in step with the address.
 // Stays: the answers from inside the loop: each is said where it is found, and two cursors go along with the address.
+// Stays: each case goes on by itself, since a turn whose cases meet again takes twice the steps.
 pub fn compare(head: Head, view: View<'_>, work: &[u32]) -> bool
     requires work_len { length work.now ≡ head.sizes.n }
     requires tables_fit { let r = shown_in view work.now in TablesFit head r.kinds r.tables × TablesSound head r.kinds r.tables }
@@ -284,12 +290,16 @@ pub fn compare(head: Head, view: View<'_>, work: &[u32]) -> bool
                 return false;
             }
             z += 1;
-        } else if stands(view.mrt, head.mrt, q, a) {
+            continue;
+        }
+        if stands(view.mrt, head.mrt, q, a) {
             if !exact(view.counts[q], head.sizes.cap, w) {
                 return false;
             }
             q += 1;
-        } else if !kinds.single(a, w) {
+            continue;
+        }
+        if !kinds.single(a, w) {
             return false;
         }
     }

@@ -4,29 +4,39 @@
 ghost use Rattle.std.specs.Prelude.{◌≡◌};
 ghost use Rattle.rules.specs.Refusals.{numbers_of, leaves, leaves_with, fresh_of, audit_of, batch_of};
 ghost use Rattle.heap.specs.Judging.{Judged};
-ghost use Rattle.cells.specs.Lending.{lent_in, shown_in, SameRows};
+ghost use Rattle.cells.specs.Lending.{lent_in, shown_in, SameFields};
+ghost use Rattle.tables.specs.Lending.{SameTables};
 
 use audit::{sized, sound};
 use cells::fresh_rows;
-pub use cells::{Fields, Rows, View};
+pub use cells::{Fields, View};
 use rules::{Head, Outcome, Refused, Sizes};
 pub use tables::Tables;
 use words::calls_right;
 use working::run_batch;
 
 // A fresh heap of the sizes, written into the rows: its head and a count of 0, or a head of zeros and what says no.
-pub fn fresh(sizes: Sizes, rows: &mut Rows, work: &mut [u32]) -> Outcome
-    ensures same { SameRows rows.old rows.new }
-    ensures leaves { leaves (numbers_of result) (lent_in rows.new work.new) ≡ fresh_of sizes (lent_in rows.old work.old) }
+// Stays: the rows side by side, here and below; the reason stands at `settle` of settle.
+pub fn fresh(
+    sizes: Sizes,
+    fields: &mut Fields,
+    variables: &mut [i32],
+    tables: &mut Tables,
+    log: &mut [u32],
+    work: &mut [u32],
+) -> Outcome
+    ensures same { SameFields fields.old fields.new × SameTables tables.old tables.new }
+    ensures leaves { leaves (numbers_of result) (lent_in fields.new variables.new tables.new log.new work.new)
+        ≡ fresh_of sizes (lent_in fields.old variables.old tables.old log.old work.old) }
 {
     let head = Head::fresh(sizes);
-    if !sized(head, rows.view().lengths(work)) {
+    if !sized(head, View::of(fields, variables, tables, log).lengths(work)) {
         return Outcome {
             head: Head::fresh(Sizes::plain(0, 0, 0, 0)),
             count: Err(Refused::Limits),
         };
     }
-    fresh_rows(rows, work, sizes);
+    fresh_rows(fields, variables, tables, log, work, sizes);
     Outcome { head, count: Ok(0) }
 }
 
@@ -67,19 +77,24 @@ fn judge(
 // A batch of calls, four words each; their answers, two words each, go into the answers row.
 pub fn batch(
     head: Head,
-    rows: &mut Rows,
+    fields: &mut Fields,
+    variables: &mut [i32],
+    tables: &mut Tables,
+    log: &mut [u32],
     work: &mut [u32],
     calls: &[i32],
     answers: &mut [i32],
 ) -> Outcome
-    ensures same { SameRows rows.old rows.new }
-    ensures leaves { leaves_with (numbers_of result) (lent_in rows.new work.new) answers.new ≡ batch_of head (lent_in rows.old work.old) calls.now answers.old }
+    ensures same { SameFields fields.old fields.new × SameTables tables.old tables.new }
+    ensures leaves { leaves_with (numbers_of result) (lent_in fields.new variables.new tables.new log.new work.new) answers.new
+        ≡ batch_of head (lent_in fields.old variables.old tables.old log.old work.old) calls.now answers.old }
 {
-    match judge(head, rows.view(), work, calls, answers) {
+    let seen = View::of(fields, variables, tables, log);
+    match judge(head, seen, work, calls, answers) {
         Err(refused) => Outcome {
             head,
             count: Err(refused),
         },
-        Ok(()) => run_batch(calls, rows, work, answers, head),
+        Ok(()) => run_batch(calls, fields, variables, tables, log, work, answers, head),
     }
 }

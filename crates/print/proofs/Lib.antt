@@ -1,3 +1,4 @@
 -- the laws that belong to no one function
+pub mod Signs
 pub mod Appending
 pub mod Taking

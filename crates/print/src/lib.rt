@@ -28,7 +28,8 @@ pub fn text<W: Write>(out: &mut W, bytes: &[u8]) -> io::Result<()>
 }
 
 // The bytes, and a number after them: its text is `decimal n`, or `signed_decimal n` of a signed type.
-#[tactic(auto, using(crate::proofs::Appending::prints_then, crate::proofs::Appending::prints_failed))]
+// common_steps is for the edits: their forms are proved with it where they print the right bytes.
+#[tactic(auto, using(crate::proofs::Appending::prints_then, crate::proofs::Appending::prints_failed, std::proofs::lemmas::Grind::common_steps))]
 pub fn number<W: Write, N: Integer>(out: &mut W, before: &[u8], n: N) -> io::Result<()>
     ensures { Prints (W.contents out.old) (W.contents out.new) (before.now ++ N.text n) result }
 {

@@ -16,13 +16,20 @@ use Rattle.rules.specs.Rules.{apply, replay}
 use Rattle.rules.specs.Call.{drops}
 use Rattle.rules.specs.Settle.{free_cell}
 use Rattle.rules.specs.Rows.{TableRows, HeapRows}
-use Rattle.rules.specs.Whole.{Rows}
+use Rattle.rules.specs.Whole.{Inside, Rows}
 use Rattle.tables.specs.Row.{TablesBy}
 use Rattle.cells.specs.Free.{FreedTo}
 use Rattle.rules.proofs.Unique.{is-take}
 use Rattle.rules.proofs.Positions.{all_at}
-use Rattle.cells.proofs.Storing.{read}
+use Rattle.cells.proofs.Storing.{inside-more, read}
 use Rattle.reclaim.specs.Reclaiming.{low_to, released, Freed}
+
+pub inside_as : {n m : ℕ} (f : Field) → n ≡ m → Inside n f → Inside m f
+inside_as f e I = inside-more f (omega arith) I
+
+-- the cell that a field names is inside, where the field is
+pub cell-inside : {b : ℕ} (f : Field) → f ≡ Cell b → {n : ℕ} → Inside n f → b < n
+cell-inside f e I = rw e at I
 
 -- a field that names a cell is let go
 pub let_go : {b cap : ℕ} {r r' : TableRows} {u u' : Used} (f : Field) → f ≡ Cell b → TablesBy cap (apply cap (destroys b)) r u r' u' → TablesBy cap (replay cap (drops f)) r u r' u'

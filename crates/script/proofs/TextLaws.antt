@@ -10,7 +10,7 @@ use Rattle.std.specs.Prelude.{unwrap_or, option_map, slice_get}
 use Rattle.std.specs.Prelude as C
 use native.Mathlib.Nat.{add-sub_cancel_left}
 use lib.ListN.{length, get_or, take, drop, length-drop, drop_of_length-le}
-use lib.Seq.{drop-cons, drop-drop}
+use lib.Seq.{drop-cons, drop-drop, take_all}
 use borrow.Author.Tests.{ltb-false}
 use Rattle.std.specs.List.{position_or_len, slice_split}
 use Rattle.std.specs.Cmp.Lexicographic.{pointwise}
@@ -87,6 +87,9 @@ end_found b s o n r e h l = rw (e, h, l, ← up_to_position b s) (go (ltb (lengt
     go true e = refl
     go false e = let m = up_to_most b s in let w = ltb-false _ _ e in omega arith
 
+pub field-first : (s : List ℕ) (i left : ℕ) → left ≡ 0 → up_to 9 (drop i s) ≡ get_or (fields_of (drop i s)) left []
+field-first s i left e = rw e
+
 -- ---- the part up to a byte
 
 -- the part from a place up to the next b
@@ -124,3 +127,7 @@ lines_step xs at h =
 pub lines_end : (xs : List ℕ) (at : ℕ) → length xs ≤ at → lines_of (drop at xs) ≡ []
 unfolding lines_from
 lines_end xs at h = rw (drop_of_length-le xs h)
+
+-- all after the first byte
+pub rest_part : (s : List ℕ) → take (length s - 1) (drop 1 s) ≡ drop 1 s
+rest_part s = take_all (length s - 1) (drop 1 s) (omega (arith, length-drop 1 s))

@@ -202,8 +202,11 @@ fn call_line(line: &[u8], m: usize, operation: Operation) -> Option<Line>
 pub fn later_line(line: &[u8], m: usize) -> Option<Line>
     ensures { option_of result ≡ line_of m line.now }
 {
+    if LONGEST < line.len() {
+        return None;
+    }
     let operation = Operation::named(field(line, 0))?;
-    if LONGEST < line.len() || fields(line) - 1 != operation.words() {
+    if fields(line) - 1 != operation.words() {
         return None;
     }
     match operation {

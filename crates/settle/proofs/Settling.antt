@@ -1,5 +1,6 @@
 -- Laws of a settle on all rows, and how a caller meets and uses its contract. Assumes nothing.
 use mathlib.Core.Path.{◌≡◌, refl, sym, ap, ◌∙◌}
+use mathlib.Core.Logic.{◌⊎◌, ⊎_elim}
 use mathlib.Core.Bool.{Bool, true, false}
 use mathlib.Core.Option.{Option, none, some}
 use mathlib.Core.List.{List, map}
@@ -10,6 +11,8 @@ use lib.Seq.{set-get_or, set-set}
 use lib.IntN.{ℤ, pos, negsuc}
 use Rattle.rules.specs.declared.Call.{Call}
 use Rattle.rules.specs.declared.Call.TheVariants.{New, Do, Settle}
+use denote.Enum.Declared.{tag_of}
+use Rattle.rules.specs.contracts.Call.{the_type}
 use Rattle.rules.specs.declared.Used.{Used}
 use Rattle.rules.specs.declared.State.{State}
 use Rattle.rules.specs.declared.Sizes.{Sizes}
@@ -165,3 +168,62 @@ module _ (c : Call) {v : ℕ} (is : c ≡ New v) {s : Sizes} {r : Lent} {at : St
     pub room_for_new : {make : Bool} {xs ys : List ℤ} (r' : Lent) {s' : State} → make ≡ true → xs ≡ set r.variables v (negsuc 0) → r'.variables ≡ xs
         → ys ≡ set r'.variables v (variable_of o) → Settles s (holding xs r) at r' s' → MakesRoom c make s r at (holding ys r') s'
     room_for_new r' e a q b S h W = room-made r' e (back-again W (q ∙ a) b) (S r.variables (counted c h) h W (aside W a))
+
+-- ---- the row of variables before a call, by what call it is
+
+-- the row of variables, with v let go before a new; the word that v has there; and the row with that word put back
+abbrev pub set_aside : Call → List ℤ → List ℤ
+set_aside (New v) xs = set xs v (negsuc 0)
+set_aside (Do d) xs = xs
+set_aside Settle xs = xs
+
+abbrev pub own_word : Call → List ℤ → ℤ
+own_word (New v) xs = get_or xs v (pos 0)
+own_word (Do d) xs = pos 0
+own_word Settle xs = pos 0
+
+abbrev pub put_back : Call → ℤ → List ℤ → List ℤ
+put_back (New v) x xs = set xs v x
+put_back (Do d) x xs = xs
+put_back Settle x xs = xs
+
+-- the row of variables with v let go is the holds that are counted
+aside_counted : (c : Call) (h : Heap) {xs : List ℤ} → xs ≡ map variable_of h.shape.variables → set_aside c xs ≡ map variable_of (counted c h)
+aside_counted (New v) h e = rw e (sym (map-set variable_of v none h.shape.variables))
+aside_counted (Do d) h e = e
+aside_counted Settle h e = e
+
+-- v put back, the row is as it was
+put-back : (c : Call) (xs : List ℤ) → put_back c (own_word c xs) (set_aside c xs) ≡ xs
+put-back (New v) xs = set-set xs v (negsuc 0) (get_or xs v (pos 0)) ∙ set-get_or xs v (pos 0)
+put-back (Do d) xs = refl
+put-back Settle xs = refl
+
+pub aside_long : (c : Call) (xs : List ℤ) → length (set_aside c xs) ≡ length xs
+aside_long (New v) xs = length-set xs v (negsuc 0)
+aside_long (Do d) xs = refl
+aside_long Settle xs = refl
+
+-- a settle between the two
+pub room_by : (c : Call) {s : Sizes} {r : Lent} {at : State} {make : Bool} {x : ℤ} {xs ys : List ℤ} {r' : HeapRows} {log work : List ℕ} {o : State} → make ≡ true
+    → xs ≡ set_aside c r.variables → x ≡ own_word c r.variables → ys ≡ put_back c x xs
+    → Settles s (holding xs r) at (with_variables xs r' log work) o → MakesRoom c make s r at (with_variables ys r' log work) o
+room_by c {r = r} {x = x} {xs} {ys} {r'} {log} {work} e a d b S h W =
+    room-made (with_variables xs r' log work) e as_was (S r.variables (counted c h) h W (a ∙ aside_counted c h W.variables_are))
+  where
+    as_was : ys ≡ r.variables
+    as_was = rw (b, d, a) (put-back c r.variables)
+
+-- a call that is no new lets go of nothing
+pub other_call : (c : Call) (x : ℤ) (xs : List ℤ) → (tag_of the_type c ≡ 1) ⊎ (tag_of the_type c ≡ 2) → (xs ≡ set_aside c xs) × ((pos 0 ≡ own_word c xs) × (xs ≡ put_back c x xs))
+other_call (New v) x xs t = absurd (⊎_elim (λ e. omega arith) (λ e. omega arith) t)
+other_call (Do d) x xs t = (refl, (refl, refl))
+other_call Settle x xs t = (refl, (refl, refl))
+
+-- a new lets go of v
+pub new_call : (c : Call) {v : ℕ} (x : ℤ) (xs : List ℤ) → c ≡ New v → (set xs v (negsuc 0) ≡ set_aside c xs) × ((get_or xs v (pos 0) ≡ own_word c xs) × (set xs v x ≡ put_back c x xs))
+new_call c x xs n = rw n (refl, (refl, refl))
+
+-- whose variable is there
+pub fits_new : (c : Call) {v m : ℕ} → c ≡ New v → Fits m c → v < m
+fits_new c n f = rw n at f

@@ -6,12 +6,12 @@ ghost use Rattle.rules.specs.Call.{Fits};
 ghost use Rattle.rules.specs.Rules.{apply};
 ghost use Rattle.tables.specs.Row.{Tabled, TablesBy};
 ghost use Rattle.tables.specs.Lending.{rows_in, SameTables};
-ghost use Rattle.cells.specs.Lending.{lent_in, SameRows};
+ghost use Rattle.cells.specs.Lending.{lent_in, SameFields};
 ghost use Rattle.cells.specs.Log.{note_of, logs_as};
 ghost use Rattle.settle.specs.Replaying.{Replayable, Replays};
 ghost use Rattle.settle.specs.Settling.{Settleable, Settles, Roomable, MakesRoom};
 
-use cells::{Entry, Rows, entry_at, held, hold, mark_held};
+use cells::{Entry, Fields, entry_at, held, hold, mark_held};
 use reclaim::reclaim;
 use rules::{Call, Sizes, State, Used};
 use tables::Tables;
@@ -46,22 +46,28 @@ fn replay(log: &[u32], len: usize, tables: &mut Tables, used: &mut Used, cap: u3
 }
 
 // A settle: replays the log and empties it, then reclaims what no variable holds. The work row is zero afterwards.
-// Stays: rows, work, at and sizes side by side: a struct of them would hold a `&mut` to a struct of `&mut`s, and each clause would say of one reference more that it is the same.
-pub fn settle(rows: &mut Rows, work: &mut [u32], at: &mut State, sizes: Sizes)
-    requires { Settleable sizes (lent_in rows.old work.old) at.old }
-    ensures settles { Settles sizes (lent_in rows.old work.old) at.old (lent_in rows.new work.new) at.new }
-    ensures variables { rows.new.variables.now ≡ rows.old.variables.now }
-    ensures same { SameRows rows.old rows.new }
+// Stays: the rows side by side: whoever lends rows in a struct within a struct finds no more of them afterwards than how long they are.
+pub fn settle(
+    fields: &mut Fields,
+    variables: &[i32],
+    tables: &mut Tables,
+    log: &mut [u32],
+    work: &mut [u32],
+    at: &mut State,
+    sizes: Sizes,
+)
+    requires { Settleable sizes (lent_in fields.old variables.now tables.old log.old work.old) at.old }
+    ensures settles { Settles sizes (lent_in fields.old variables.now tables.old log.old work.old) at.old
+        (lent_in fields.new variables.now tables.new log.new work.new) at.new }
+    ensures same { SameFields fields.old fields.new × SameTables tables.old tables.new }
 {
     let cap = sizes.cap as u32;
-    let log = &mut *rows.log;
-    replay(log, at.len, &mut rows.tables, &mut at.used, cap);
+    replay(log, at.len, tables, &mut at.used, cap);
     log.fill(0);
     at.len = 0;
-    let variables = &mut *rows.variables;
     mark_held(variables, work);
     let most = work.len();
-    reclaim(&mut rows.fields, &mut rows.tables, work, at, cap, most);
+    reclaim(fields, tables, work, at, cap, most);
     work.fill(0);
 }
 
@@ -70,24 +76,27 @@ pub fn settle(rows: &mut Rows, work: &mut [u32], at: &mut State, sizes: Sizes)
 pub fn settle_for(
     call: Call,
     make: bool,
-    rows: &mut Rows,
+    fields: &mut Fields,
+    variables: &mut [i32],
+    tables: &mut Tables,
+    log: &mut [u32],
     work: &mut [u32],
     at: &mut State,
     sizes: Sizes,
 )
-    requires { Roomable call sizes (lent_in rows.old work.old) at.old }
-    ensures room { MakesRoom call make sizes (lent_in rows.old work.old) at.old (lent_in rows.new work.new) at.new }
-    ensures same { SameRows rows.old rows.new }
+    requires { Roomable call sizes (lent_in fields.old variables.old tables.old log.old work.old) at.old }
+    ensures room { MakesRoom call make sizes (lent_in fields.old variables.old tables.old log.old work.old) at.old
+        (lent_in fields.new variables.new tables.new log.new work.new) at.new }
+    ensures same { SameFields fields.old fields.new × SameTables tables.old tables.new }
 {
     if !make {
         return;
     }
     let Call::New(v) = call else {
-        return settle(rows, work, at, sizes);
+        return settle(fields, variables, tables, log, work, at, sizes);
     };
-    let variables = &mut *rows.variables;
     let own = held(variables, v);
     hold(variables, v, None);
-    settle(rows, work, at, sizes);
-    hold(&mut *rows.variables, v, own);
+    settle(fields, variables, tables, log, work, at, sizes);
+    hold(variables, v, own);
 }

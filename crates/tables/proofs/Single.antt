@@ -1,5 +1,5 @@
 -- One row that is a list: what the code reads of it, and the list after an entry or a deletion. Assumes nothing.
-use mathlib.Core.Path.{◌≡◌, ap, ◌∙◌}
+use mathlib.Core.Path.{◌≡◌, refl, sym, ap, ◌∙◌}
 use mathlib.Core.Bool.{true, false}
 use mathlib.Core.List.{List}
 use Prim.Native.Nat.{ℕ, ◌+◌, ◌-◌, ◌≤◌, ◌<◌}
@@ -16,6 +16,10 @@ use Rattle.tables.proofs.Places.{has-used, insert-there, insert-put, remove-cut,
 
 pub is-pad : (n used : ℕ) (row z : List ℕ) → length z ≤ n → used ≡ length z → row ≡ pad n z → Is n row used z
 is-pad n used row z h l e = record { long = ap length e ∙ length-pad n z h; count = l; padded = e }
+
+-- a row that is padded is the list of its used part
+pub padded-is : {used : ℕ} {row : List ℕ} → Padded row used → Is (length row) row used (take used row)
+padded-is {used} {row} P = record { long = refl; count = sym (length-take-le used row P.fits); padded = P.zeros }
 
 -- a row that is the list z
 module _ {n used : ℕ} {row z : List ℕ} (I : Is n row used z) where

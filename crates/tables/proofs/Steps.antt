@@ -1,10 +1,11 @@
 -- From the rows of both tables to a transaction. Assumes nothing.
 use mathlib.Core.Path.{◌≡◌, refl, sym, ◌∙◌}
 use mathlib.Core.Bool.{Bool, true, false, cond}
-use mathlib.Core.List.{List}
+use mathlib.Core.List.{List, []}
 use Prim.Native.Nat.{ℕ, zero, suc, ◌-◌, ◌≤◌, ◌<◌}
+use native.Mathlib.Nat.{sub-zero}
 use native.Mathlib.Omega.{arith}
-use lib.ListN.{length, take, get_or}
+use lib.ListN.{length, take, get_or, replicate, length-replicate}
 use lib.Seq.{get_or-take, length-take-le}
 use lib.Dec.{eqb}
 use Rattle.rules.specs.declared.Used.{Used}
@@ -12,7 +13,7 @@ use Rattle.rules.specs.Table.{has, insert, remove, count_in, addresses, pad}
 use Rattle.rules.specs.Heap.{Tables, Transaction, allocates, creates, destroys}
 use Rattle.rules.specs.Rules.{enter_zct, leave_zct, enter_mrt, leave_mrt, on_create, on_destroy, apply}
 use Rattle.rules.specs.Rows.{TableRows, table_rows}
-use Rattle.rules.specs.Whole.{Kept, Ready}
+use Rattle.rules.specs.Whole.{Is, Kept, Ready}
 use Rattle.rules.specs.Invariant.{named}
 use Rattle.rules.proofs.Sorted.{insert-up, all_insert, leave_zct-kept, apply-kept}
 use Rattle.tables.specs.Row.{cut, Listed, Tabled, RowBy, TablesBy, ZctBy}
@@ -48,6 +49,16 @@ module _ {n cap : ℕ} {r : TableRows} {u : Used} {t : Tables} (R : Ready n cap 
   -- they are some tables
   pub tabled : n ≤ 1024 → 3 ≤ cap → Tabled cap r u
   tabled most big = let l = R.are.zct_is.long in record { most = omega arith; big = big; tables = t; ready = rw l R }
+
+-- rows of zeros are empty tables
+zero_row : (n : ℕ) → Is n (replicate n 0) 0 []
+zero_row n = record { long = length-replicate n 0; count = refl; padded = rw (sub-zero n) }
+
+pub fresh-ready : (n cap : ℕ) → Ready n cap (table_rows (replicate n 0) (replicate n 0) (replicate n 0)) (record { zct = 0; mrt = 0 }) (record { zct = []; mrt = [] })
+fresh-ready n cap = record {
+  are = record { zct_is = zero_row n; mrt_is = zero_row n; counts_is = zero_row n };
+  kept = record { zct_up = tt; zct_below = tt; mrt_up = tt; mrt_below = tt; mrt_counts = tt };
+}
 
 -- tables' rows stay such, of one length
 pub tabled_after : {cap : ℕ} {f : Tables → Tables} {r r' : TableRows} {u u' : Used} → Tabled cap r u → TablesBy cap f r u r' u' → Tabled cap r' u'

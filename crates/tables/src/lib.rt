@@ -33,9 +33,11 @@ pub fn find(row: &[u32], used: usize, a: u32) -> Result<usize, usize>
 
 // Moves the tail's elements one place up and puts x first: the last is lost.
 fn shift_up(tail: &mut [u32], x: u32)
-    requires { 0 < length tail.old }
     ensures { tail.new ≡ take (length tail.old) (x ∷ tail.old) }
 {
+    if tail.is_empty() {
+        return;
+    }
     tail.rotate_right(1);
     tail[0] = x;
 }

@@ -1,2 +1,3 @@
 -- the laws that belong to no one function
 pub mod First
+pub mod Going

@@ -5,7 +5,7 @@ ghost use Rattle.std.specs.Prelude.{◌≡◌, ◌<◌, ◌≤◌, ◌==◌, len
 ghost use Rattle.rules.specs.Head.{Limits};
 ghost use Rattle.tally.specs.Place.{Gathered};
 
-use heap::{Fields, Rows, Tables, View};
+use heap::{Fields, Tables, View};
 use print::Integer;
 use reader::Reader;
 use rules::{Head, Kind, Sizes};
@@ -133,30 +133,35 @@ fn gather(
 }
 
 // A script after its heap line, on rows of the heap's lengths: its batches, and the lines at the end.
+// Stays: the rows side by side, as heap takes them.
 fn run<W: Write>(
     out: &mut W,
     mut reader: Reader,
     sizes: Sizes,
-    rows: &mut Rows,
+    fields: &mut Fields,
+    variables: &mut [i32],
+    tables: &mut Tables,
+    log: &mut [u32],
     work: &mut [u32],
 ) -> Result<(), Stop>
     requires { reader.number ≤ 1000000 }
 {
-    let mut head = heap::fresh(sizes, rows, work).head;
+    let mut head = heap::fresh(sizes, fields, variables, tables, log, work).head;
     let mut calls = [[0; 4]; CALLS_MOST];
     let mut answers = [[0; 2]; CALLS_MOST];
     let mut closed = 0;
     // Stays: each turn gathers a batch from the reader: it counts no index.
     while let Some(count) = gather(&mut reader, sizes.m, &mut calls)? {
         let words = calls[..count].as_flattened();
-        let done = heap::batch(head, rows, work, words, answers.as_flattened_mut());
+        let said = answers.as_flattened_mut();
+        let done = heap::batch(head, fields, variables, tables, log, work, words, said);
         head = done.head;
         if done.count.is_ok() {
             print_answers(out, &answers[..count], closed)?;
         }
         closed += count;
     }
-    print_end(out, head, rows.view())?;
+    print_end(out, head, View::of(fields, variables, tables, log))?;
     Ok(())
 }
 
@@ -176,20 +181,25 @@ fn tally<W: Write>(out: &mut W, text: &[u8]) -> Result<(), Stop> {
     let mut counts = [0; Sizes::CELLS_MOST];
     let mut log = [0; 2 * Sizes::ENTRIES_MOST];
     let mut work = [0; Sizes::CELLS_MOST];
-    let mut rows = Rows {
-        fields: Fields {
-            kinds: &mut kinds[..2 * n],
-            values: &mut values[..2 * n],
-        },
-        variables: &mut variables[..m],
-        tables: Tables {
-            zct: &mut zct[..n],
-            mrt: &mut mrt[..n],
-            counts: &mut counts[..n],
-        },
-        log: &mut log[..2 * l],
+    let mut fields = Fields {
+        kinds: &mut kinds[..2 * n],
+        values: &mut values[..2 * n],
     };
-    run(out, reader, sizes, &mut rows, &mut work[..n])
+    let mut tables = Tables {
+        zct: &mut zct[..n],
+        mrt: &mut mrt[..n],
+        counts: &mut counts[..n],
+    };
+    run(
+        out,
+        reader,
+        sizes,
+        &mut fields,
+        &mut variables[..m],
+        &mut tables,
+        &mut log[..2 * l],
+        &mut work[..n],
+    )
 }
 
 fn main(rt: HostRuntime) -> io::Result<()> {

@@ -2,18 +2,36 @@
 use mathlib.Core.Path.{◌≡◌, refl, ap, ◌∙◌, subst}
 use mathlib.Core.Bool.{Bool, true, false, cond}
 use mathlib.Core.Option.{Option, none, some}
-use mathlib.Core.List.{List, [], ◌∷◌}
-use Prim.Native.Nat.{ℕ, zero, suc, ◌+◌, ◌*◌, ◌%◌, ◌≤◌, ◌<◌}
+use mathlib.Core.List.{List, [], ◌∷◌, ◌++◌}
+use Prim.Native.Nat.{ℕ, zero, suc, ◌+◌, ◌*◌, ◌≤◌, ◌<◌, ◌%◌}
 use native.Mathlib.Omega.{arith}
 use lib.Dec.{leb}
 use borrow.Author.Tests.{le-leb, lt-leb}
 use lib.IntN.{ℤ}
-use lib.ListN.{length, get_or}
+use lib.ListN.{length, get_or, drop}
 use Rattle.rules.specs.declared.Call.{Call}
 use Rattle.rules.specs.declared.Call.TheVariants.{Settle}
 use Rattle.rules.specs.Call.{call_of, and_then, calls_of, calls_in}
 use Rattle.rules.proofs.Alike.{no-first, first-call}
 use Rattle.words.specs.Words.{is_some, call_at, Decides}
+
+-- calls before those of the rest
+abbrev before_rest : List Call → Option (List Call) → Option (List Call)
+before_rest cs none = none
+before_rest cs (some ds) = some (cs ++ ds)
+
+-- the words before i are calls
+pub record Passed (m : ℕ) (ws : List ℤ) (i : ℕ) : Type 0 where
+  pub within : i ≤ length ws
+  pub calls : List Call
+  pub rest : calls_of m ws ≡ before_rest calls (calls_of m (drop i ws))
+
+none-joined : (r : Option (List Call)) → r ≡ before_rest [] r
+none-joined none = refl
+none-joined (some cs) = refl
+
+pub passed_none : (m : ℕ) (ws : List ℤ) → Passed m ws 0
+passed_none m ws = record { within = omega arith; calls = []; rest = none-joined (calls_of m ws) }
 
 -- the call at a place four words on
 four_on : (m : ℕ) (x y z w : ℤ) (ws : List ℤ) (k : ℕ) → call_at m (x ∷ y ∷ z ∷ w ∷ ws) (4 * suc k) ≡ call_at m ws (4 * k)

@@ -8,7 +8,7 @@ use native.Mathlib.Omega.{arith}
 use native.Mathlib.Numerals.{add-one}
 use lib.Dec.{leb}
 use lib.IntN.{ℤ, pos}
-use lib.ListN.{length, length-append, length-drop, get_or, set, take, drop, drop_of_length-le}
+use lib.ListN.{length, length-map, length-append, length-drop, get_or, set, take, drop, drop_of_length-le}
 use lib.Seq.{drop-cons, set_at}
 use borrow.Author.Tests.{leb-true}
 use Rattle.rules.specs.declared.Head.{Head}
@@ -22,17 +22,38 @@ use Rattle.rules.specs.Settle.{settled}
 use Rattle.std.specs.Prelude.{Result}
 use Rattle.rules.specs.Call.{Answer, answer_of, calls_of, calls_in}
 use Rattle.rules.specs.Step.{step, calls}
-use Rattle.rules.specs.Rows.{Lent, rows_of}
+use Rattle.rules.specs.Rows.{Lent, lengths_of, rows_of}
+use Rattle.rules.specs.Sound.{Lengths}
 use Rattle.rules.specs.Whole.{start_of}
 use Rattle.rules.specs.Refusals.{Numbers, answer_words, answered}
 use Rattle.rules.proofs.Demand1.{words_long}
 use Rattle.rules.proofs.Whole.{rows_all, head-is}
+use Rattle.cells.proofs.Storing.{cell-lengths}
 use Rattle.words.specs.Words.{call_at}
 use Rattle.words.proofs.Listing.{listed}
 use Rattle.settle.specs.Settling.{Settled, Settles}
 use Rattle.settle.proofs.Settling.{settled-whole}
 use Rattle.working.specs.Working.{Standing, Workable, Works, answering, Runnable, ByTheRules, Runs, ended_at}
 use Rattle.working.proofs.Steps.{turn-call, turn-long}
+
+-- ---- lengths
+
+-- the lengths of rows that are a heap's
+pub long_of : {s : Sizes} {r : Lent} {at : State} {h : Heap} → Standing s r at h → Lengths s (lengths_of r)
+long_of S =
+    let W = S.whole in
+    let l = cell-lengths W.rows.cells in
+    let A = W.rows.ready.are in
+    record {
+      for_kinds = l.0;
+      for_values = l.1;
+      for_variables = rw W.variables_are (simp length-map S.inv.variables_long);
+      for_zct = A.zct_is.long;
+      for_mrt = A.mrt_is.long;
+      for_counts = A.counts_is.long;
+      for_log = W.log_long;
+      for_work = W.work_long;
+    }
 
 -- ---- the loop
 

@@ -1,6 +1,7 @@
 -- A call as the code works it is the call of the rules. Assumes nothing.
 use Prim.Native.Nat.{ℕ, zero, suc, ◌+◌, ◌-◌, ◌*◌, ◌≤◌, ◌<◌}
 use mathlib.Core.Path.{◌≡◌, refl, sym, ap, ◌∙◌, subst}
+use mathlib.Core.Logic.{◌⊎◌, inl, inr}
 use mathlib.Core.Bool.{Bool, true, false, ◌||◌}
 use mathlib.Core.Option.{Option, some}
 use mathlib.Core.List.{List}
@@ -22,6 +23,7 @@ use Rattle.rules.specs.Whole.{Whole}
 use Rattle.rules.specs.Invariant.{Inv}
 use Rattle.rules.proofs.Calls.{call_fits}
 use Rattle.rules.proofs.Step.{settled_if-variables, step-inv, for_room, for_right}
+use Rattle.rules.proofs.Facts.{check_reason, Fourteen, call_refused}
 use Rattle.words.specs.Words.{call_at}
 use Rattle.before.specs.Seen.{Shown, Reaches}
 use Rattle.calls.specs.Doing.{Able, Does}
@@ -170,10 +172,17 @@ module _ {s : Sizes} {r : Lent} {at : State} (c : Call) {k : ℕ} (right : (sh :
         few = omega arith;
       })
 
--- the tables' rows and the work row stay while it is done
-pub worked_in : {s : Sizes} {at st : State} {o : Stepped} {a : Result ℤ Refusal} {q : CallRows} {t t' : TableRows} {work : List ℕ} → t ≡ t'
-    → Answered s (beside t' work q) at o st a → Answered s (beside t work q) at o st a
-worked_in e A = rw e A
+-- a status is at most 15
+pub status-small : (s : Sizes) (c : Call) (h : Heap) → (step s c h).answer.status ≤ 15
+status-small s c h = go (step s c h).answer.status refl
+  where
+    go : (k : ℕ) → (step s c h).answer.status ≡ k → k ≤ 15
+    go zero e = omega arith
+    go (suc k) e = by (call_refused s c h k e).1
+      where
+        by : {A : Type 0} → ((check c h.shape ≡ suc k) × A) ⊎ Fourteen s c h (suc k) (step s c h) → suc k ≤ 15
+        by (inl p) = (rw p.0 at (check_reason c h.shape)).1
+        by (inr f) = let e = f.said in omega arith
 
 -- ---- the call that was found
 

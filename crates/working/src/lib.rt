@@ -7,14 +7,16 @@ ghost use Rattle.rules.specs.Call.{answer_of};
 ghost use Rattle.rules.specs.Step.{needs, wants};
 ghost use Rattle.rules.specs.Whole.{start_of};
 ghost use Rattle.rules.specs.Refusals.{numbers_of};
-ghost use Rattle.cells.specs.Lending.{lent_in, SameRows};
+ghost use Rattle.cells.specs.Lending.{lent_in, SameFields};
+ghost use Rattle.tables.specs.Lending.{SameTables};
 ghost use Rattle.working.specs.Working.{Workable, Works, answering, Runnable, Runs, ended_at};
 
 use before::{check, need};
 use calls::act;
-use cells::Rows;
+use cells::{Fields, View};
 use rules::{Call, Head, Outcome, Refusal, Sizes, State, Used};
 use settle::{settle, settle_for};
+use tables::Tables;
 use words::call_at;
 
 // Is a settle made before the call, which needs so many entries?
@@ -33,28 +35,42 @@ fn settles_first(call: Call, need: usize, sizes: Sizes, at: State) -> bool
 
 // The call at the start of these words is worked: refused by its check, or settled first where it wants that, and then done.
 // (A batch's words were found right before.)
+// Stays: the rows side by side, here and below; the reason stands at `settle` of settle.
 fn step(
     words: &[i32],
-    rows: &mut Rows,
+    fields: &mut Fields,
+    variables: &mut [i32],
+    tables: &mut Tables,
+    log: &mut [u32],
     work: &mut [u32],
     sizes: Sizes,
     at: &mut State,
 ) -> Result<i32, Refusal>
-    requires { Workable sizes words.now (lent_in rows.old work.old) at.old }
-    ensures same { SameRows rows.old rows.new }
-    ensures works { Works sizes words.now (lent_in rows.old work.old) at.old (lent_in rows.new work.new) at.new result }
+    requires { Workable sizes words.now (lent_in fields.old variables.old tables.old log.old work.old) at.old }
+    ensures same { SameFields fields.old fields.new × SameTables tables.old tables.new }
+    ensures works { Works sizes words.now (lent_in fields.old variables.old tables.old log.old work.old) at.old
+        (lent_in fields.new variables.new tables.new log.new work.new) at.new result }
 {
     // Stays: as before the words are looked at again; `Workable` does not ask that they are a call.
     let Some(call) = call_at(words, 0, sizes.m) else {
         return Ok(0);
     };
-    let view = rows.view();
-    check(call, view, sizes.n)?;
-    let entries = need(call, view, sizes.n);
+    let seen = View::of(fields, variables, tables, log);
+    check(call, seen, sizes.n)?;
+    let entries = need(call, seen, sizes.n);
     let make = settles_first(call, entries, sizes, *at);
     let before = at.freed;
-    settle_for(call, make, rows, work, at, sizes);
-    act(call, rows, sizes, at, at.freed - before)
+    settle_for(call, make, fields, variables, tables, log, work, at, sizes);
+    act(
+        call,
+        fields,
+        variables,
+        tables,
+        log,
+        sizes,
+        at,
+        at.freed - before,
+    )
 }
 
 // The answer of call i is written: its status, and its value beside it.
@@ -106,22 +122,27 @@ fn ended(sizes: Sizes, at: State) -> Outcome
 // A batch that passed every check: each call is worked from the four words where it starts, and a settle is made at the end.
 pub fn run_batch(
     calls: &[i32],
-    rows: &mut Rows,
+    fields: &mut Fields,
+    variables: &mut [i32],
+    tables: &mut Tables,
+    log: &mut [u32],
     work: &mut [u32],
     answers: &mut [i32],
     head: Head,
 ) -> Outcome
-    requires { Runnable head calls.now (lent_in rows.old work.old) answers.old }
-    ensures same { SameRows rows.old rows.new }
-    ensures runs { Runs head calls.now (lent_in rows.old work.old) answers.old (lent_in rows.new work.new) answers.new (numbers_of result) }
+    requires { Runnable head calls.now (lent_in fields.old variables.old tables.old log.old work.old) answers.old }
+    ensures same { SameFields fields.old fields.new × SameTables tables.old tables.new }
+    ensures runs { Runs head calls.now (lent_in fields.old variables.old tables.old log.old work.old) answers.old
+        (lent_in fields.new variables.new tables.new log.new work.new) answers.new (numbers_of result) }
 {
     let sizes = head.sizes;
     let mut at = start(head);
     // Stays: the part of the calls row from its middle on is the form that document 01 names.
     for i in 0..calls.len() / 4 {
-        let answer = step(&calls[4 * i..], rows, work, sizes, &mut at);
+        let words = &calls[4 * i..];
+        let answer = step(words, fields, variables, tables, log, work, sizes, &mut at);
         write_answer(answers, i, answer);
     }
-    settle(rows, work, &mut at, sizes);
+    settle(fields, variables, tables, log, work, &mut at, sizes);
     ended(sizes, at)
 }

@@ -1,10 +1,10 @@
--- What is said of v, and else of w.
-use Rattle.std.proofs.Common.{◌∙◌}
-use Rattle.before.proofs.Seeing.{handed_on, first_no, first_yes, both_first}
+-- What is said of w, where v holds a cell.
+use Rattle.std.proofs.Common.{◌≡◌, ◌∙◌, get_or}
+use Rattle.std.proofs.Math.Option.{none, some}
+use Rattle.before.proofs.Seeing.{held-is}
 use Rattle.before.proofs.check_both.Goals as goal
 
-pub returns-in_err-check_held : goal.returns-in_err-check_held
-returns-in_err-check_held c n hs H = rw both_first (handed_on _ _ c.from_residual.ensures.1 ∙ first_no _ _ _ (c.in_err-check_held.ensures n hs H))
-
-pub returns : goal.returns
-returns c n hs H = rw both_first (first_yes _ _ _ (c.in_ok-check_held.ensures n hs H) (c.check_held-2.ensures n hs H))
+pub returns-in-Some : goal.returns-in-Some
+returns-in-Some c n hs H =
+    let e : some c.in-Some.field-0 ≡ get_or hs c.args.v none = c.in-Some.ensures ∙ held-is H c.args.v c.requires.0 in
+    rw (← e) (c.check_held.ensures n hs H)

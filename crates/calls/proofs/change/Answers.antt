@@ -10,10 +10,10 @@ pub link-at-requires : goal.link-at-requires
 link-at-requires c = can_link (rw c.in-Link.is at c.requires)
 
 pub follow-a-requires : goal.follow-a-requires
-follow-a-requires c = reach-there c.args.rows.now c.view.result c.view.ensures (can_look (rw c.in-Follow.is at c.requires))
+follow-a-requires c = reach-there c.of.ensures.seen (can_look (rw c.in-Follow.is at c.requires))
 
 pub hold-requires-in-Follow : goal.hold-requires-in-Follow
-hold-requires-in-Follow c = can_follow (rw c.in-Follow.is at c.requires) (λ sh S. c.follow-a.ensures sh (shown-there c.args.rows.now c.view.result c.view.ensures S))
+hold-requires-in-Follow c = can_follow (rw c.in-Follow.is at c.requires) (λ sh S. c.follow-a.ensures sh (shown-there c.of.ensures.seen S))
 
 pub write-at-requires : goal.write-at-requires
 write-at-requires c = can_put _ (rw c.in-Put.is at c.requires)
@@ -28,18 +28,18 @@ pub returns-in-Clear-clause-changes : goal.returns-in-Clear-clause-changes
 returns-in-Clear-clause-changes c t work h W = rw c.in-Clear.is (did_clear W _ c.hold.ensures)
 
 pub returns-in-Link-clause-changes : goal.returns-in-Link-clause-changes
-returns-in-Link-clause-changes c t work h W = rw c.in-Link.is (did_link W c.link-at.ensures.rest.log_long _ _ _ c.link-at.ensures.links)
+returns-in-Link-clause-changes c t work h W = rw c.in-Link.is (did_link W c.link-at.auto.log _ _ _ c.link-at.ensures.links)
 
 pub returns-in-Put-clause-changes : goal.returns-in-Put-clause-changes
 returns-in-Put-clause-changes c t work h W =
-    rw c.in-Put.is (did_put W c.write-at.ensures.rest.log_long _ _ _ _ (back _ (rw c.in-Put.is at c.requires.fits).2) c.write-at.ensures.writes)
+    rw c.in-Put.is (did_put W c.write-at.auto.log _ _ _ _ (back _ (rw c.in-Put.is at c.requires.fits).2) c.write-at.ensures.writes)
 
 pub returns-in-Blank-clause-changes : goal.returns-in-Blank-clause-changes
-returns-in-Blank-clause-changes c t work h W = rw c.in-Blank.is (did_blank W c.write-at-in-Blank.ensures.rest.log_long _ _ c.write-at-in-Blank.ensures.writes)
+returns-in-Blank-clause-changes c t work h W = rw c.in-Blank.is (did_blank W c.write-at-in-Blank.auto.log _ _ c.write-at-in-Blank.ensures.writes)
 
 pub returns-in-Follow-clause-changes : goal.returns-in-Follow-clause-changes
 returns-in-Follow-clause-changes c t work h W =
-    rw c.in-Follow.is (did_follow W _ _ _ (λ sh S. c.follow-a.ensures sh (shown-there c.args.rows.now c.view.result c.view.ensures S)) c.hold-in-Follow.ensures)
+    rw c.in-Follow.is (did_follow W _ _ _ (λ sh S. c.follow-a.ensures sh (shown-there c.of.ensures.seen S)) c.hold-in-Follow.ensures)
 
 pub returns-in-Read-clause-changes : goal.returns-in-Read-clause-changes
 returns-in-Read-clause-changes c t work h W = ⊎_elim (λ p. rw p.2 (did_read W _ _)) (λ p. rw p.2 (did_same W _ _)) c.in-Read.is

@@ -13,7 +13,7 @@ pub add_entry-requires : goal.add_entry-requires
 add_entry-requires c =
     let p = c.requires in
     let w = c.write-logged.ensures in
-    link_room p c.in-Some.ensures (w.writes p.n p.shape p.list p.shown p.logged).logged w.rest.log_long
+    link_room p c.in-Some.ensures (w.writes p.n p.shape p.list p.shown p.logged).logged c.write-logged.auto.log
 
 pub returns-clause-links : goal.returns-clause-links
 returns-clause-links c n s ts S L =
