@@ -5,3 +5,4 @@ pub mod Storing
 pub mod Logging
 pub mod Marking
 pub mod Freshness
+pub mod Viewing

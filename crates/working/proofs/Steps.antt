@@ -172,6 +172,11 @@ module _ {s : Sizes} {r : Lent} {at : State} (c : Call) {k : ℕ} (right : (sh :
         few = omega arith;
       })
 
+-- the tables' rows and the work row stay while it is done
+pub worked_in : {s : Sizes} {at st : State} {o : Stepped} {a : Result ℤ Refusal} {q : CallRows} {t t' : TableRows} {work : List ℕ} → t ≡ t'
+    → Answered s (beside t' work q) at o st a → Answered s (beside t work q) at o st a
+worked_in e A = rw e A
+
 -- a status is at most 15
 pub status-small : (s : Sizes) (c : Call) (h : Heap) → (step s c h).answer.status ≤ 15
 status-small s c h = go (step s c h).answer.status refl
